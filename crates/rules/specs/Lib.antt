@@ -1,0 +1,14 @@
+-- Document 01 as definitions, in its order. Each is total and computes; contracts and proofs cite them.
+pub mod Numbers
+pub mod Lists
+pub mod Columns
+pub mod TableRules
+pub mod Refusals
+pub mod Heap
+pub mod Graph
+pub mod Search
+pub mod Build
+pub mod Unpack
+pub mod Query
+pub mod Program
+pub mod Bench

@@ -1,0 +1,24 @@
+-- "Numbers" of document 01. Every other definition cites these by name.
+use Prim.Native.Nat.{ℕ, _^_, _-_}
+
+abbrev pub maxNodes : ℕ
+maxNodes = 1024
+
+abbrev pub maxLinks : ℕ
+maxLinks = 16384
+
+-- sources, and targets
+abbrev pub maxEnds : ℕ
+maxEnds = 16
+
+-- of a pair sum, of a table weight and of an offset that counts
+abbrev pub maxWeight : ℕ
+maxWeight = 2 ^ 40
+
+-- the no-weight mark, `WEIGHT_MAX`
+abbrev pub noWeight : ℕ
+noWeight = 2 ^ 64 - 1
+
+-- the invalid mark, for every column that is not of weights
+abbrev pub invalid : ℕ
+invalid = 2 ^ 32 - 1
