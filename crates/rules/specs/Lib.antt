@@ -11,4 +11,5 @@ pub mod Build
 pub mod Unpack
 pub mod Query
 pub mod Program
+pub mod Computing
 pub mod Bench

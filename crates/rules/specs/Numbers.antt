@@ -22,3 +22,13 @@ noWeight = 2 ^ 64 - 1
 -- the invalid mark, for every column that is not of weights
 abbrev pub invalid : ℕ
 invalid = 2 ^ 32 - 1
+
+-- of the record program: bytes of input, nodes, links
+abbrev pub maxInput : ℕ
+maxInput = 16384
+
+abbrev pub programNodes : ℕ
+programNodes = 32
+
+abbrev pub programLinks : ℕ
+programLinks = 256
