@@ -1,11 +1,12 @@
 -- What a caller hands in and lends: columns of numbers, of any lengths.
+use mathlib.Core.Path.{_≡_}
 use mathlib.Core.List.{List, [], _∷_, map}
 use mathlib.Core.Bool.{Bool, true, false, _&&_}
 use Prim.Native.Nat.{ℕ, suc}
 use lib.Dec.{eqb}
 use lib.ListN.{length, getD}
 use Rattle.rules.specs.Numbers.{invalid, noWeight}
-use Rattle.rules.specs.Lists.{all, filled, range}
+use Rattle.rules.specs.Lists.{filled, range}
 
 -- Links are numbered from 0 and directed.
 pub record Links : Type 0 where
@@ -91,9 +92,17 @@ entries h s v = map (entry (table h s)) (places (table h s) (rank h v))
 unfoldable pub room : Table → ℕ
 room t = length (t .bases)
 
+-- "a table's columns equally long"
+pub record EquallyLong (t : Table) : Type 0 where
+  pub neighbours : length (t .neighbours) ≡ room t
+  pub weights : length (t .weights) ≡ room t
+  pub in-numbers : length (t .in-numbers) ≡ room t
+  pub out-numbers : length (t .out-numbers) ≡ room t
+
 unfoldable pub equally-long : Table → Bool
 equally-long t =
-    all (λ (c : List ℕ). eqb (length c) (room t)) (t .neighbours ∷ t .weights ∷ t .in-numbers ∷ t .out-numbers ∷ [])
+    eqb (length (t .neighbours)) (room t) && eqb (length (t .weights)) (room t) &&
+    eqb (length (t .in-numbers)) (room t) && eqb (length (t .out-numbers)) (room t)
 
 -- every place set to the mark of its column
 unfoldable pub marked-table : Table → Table

@@ -8,7 +8,7 @@ use lib.Dec.{eqb, ltb, leb}
 use lib.ListN.{length, take}
 use Rattle.rules.specs.Numbers.{maxNodes, maxWeight, invalid}
 use Rattle.rules.specs.Lists.{all, distinct, range}
-use Rattle.rules.specs.Columns.{Table, Entry, Hierarchy, Side, forward, backward, table, entry, rank, begin, places, room, equally-long}
+use Rattle.rules.specs.Columns.{Table, Entry, Hierarchy, Side, forward, backward, table, entry, rank, begin, places, room, equally-long, EquallyLong}
 
 -- an entry leads from its tail to its head
 unfoldable pub tail-of : Side → Entry → ℕ
@@ -50,19 +50,20 @@ module _ (n : ℕ) (h : Hierarchy) where
     pub numbers : ((e .in-number ≡ invalid) × (e .out-number ≡ invalid)) ⊎ Opens s e
 
   pub record SideRules (s : Side) : Type 0 where
-    pub columns : equally-long (table h s) ≡ true
+    pub columns : EquallyLong (table h s)
     pub places-for-starts : suc n ≤ length (table h s .starts)
     pub begin-at-0 : begin (table h s) 0 ≡ 0
     pub never-fall : (r : ℕ) → r < n → begin (table h s) r ≤ begin (table h s) (suc r)
     pub end-within : used n (table h s) ≤ room (table h s)
     pub entry-rules : (r : ℕ) → r < n → (e : ℕ) → begin (table h s) r ≤ e → e < begin (table h s) (suc r) → EntryRules s r (entry (table h s) e)
 
+  -- "the first n ranks a permutation": each is below n, and no two are the same
   pub record TableRules : Type 0 where
     pub nodes : n ≤ maxNodes
     pub places-for-ranks : n ≤ length (h .ranks)
     pub ranks-below : (v : ℕ) → v < n → rank h v < n
-    pub ranks-distinct : distinct (take n (h .ranks)) ≡ true
-    pub sides : (s : Side) → SideRules s
+    pub ranks-differ : (u v : ℕ) → u < n → v < n → rank h u ≡ rank h v → u ≡ v
+    pub side-rules : (s : Side) → SideRules s
 
   -- The test, in the same order.
   unfoldable pub opens-test : Side → Entry → Entry → Entry → Bool

@@ -1,0 +1,96 @@
+-- Tests of all numbers of a range, and of all elements of a list.
+use mathlib.Core.Path.{_≡_, refl, sym, _∙_, ap}
+use mathlib.Core.Logic.{inl, inr}
+use mathlib.Core.Bool.{Bool, true, false, not, _&&_, _||_, true≢false, false≢true}
+use mathlib.Core.List.{List, [], _∷_}
+use Prim.Native.Nat.{ℕ, zero, suc, _+_, _-_, _≤_, _<_}
+use native.Mathlib.Omega.{arith}
+use native.Mathlib.Decide.{ℕ-discrete}
+use lib.Dec.{eqb, ltb, leb}
+use lib.ListN.{length, getD, take}
+use borrow.Author.Tests.{eqb-true, eq-eqb, ne-eqb, eqb-false}
+use Rattle.rules.specs.Lists.{all, any, distinct, range, count-from}
+use Rattle.rules.proofs.Decides.{Decides, and-both, both-and, or-either, left-or, right-or}
+
+module _ (p : ℕ → Bool) where
+  counted-each : (a n : ℕ) → all p (count-from a n) ≡ true → (k : ℕ) → a ≤ k → k < a + n → p k ≡ true
+  unfolding all count-from
+  counted-each a zero e k low high = absurd (omega arith)
+  counted-each a (suc n) e k low high =
+      elim (ℕ-discrete k a) [
+        | yes same ↦ rw same (and-both (p a) (all p (count-from (suc a) n)) e .0)
+        | no other ↦
+            counted-each (suc a) n (and-both (p a) (all p (count-from (suc a) n)) e .1) k
+            (omega arith) (omega arith)
+      ]
+
+  each-counted : (a n : ℕ) → ((k : ℕ) → a ≤ k → k < a + n → p k ≡ true) → all p (count-from a n) ≡ true
+  unfolding all count-from
+  each-counted a zero f = refl
+  each-counted a (suc n) f =
+      both-and (p a) (all p (count-from (suc a) n)) (f a (omega arith) (omega arith))
+      (each-counted (suc a) n (λ k low high. f k (omega arith) (omega arith)))
+
+  range-decides : (a b : ℕ) → Decides (all p (range a b)) ((k : ℕ) → a ≤ k → k < b → p k ≡ true)
+  unfolding range
+  range-decides a b = (
+    λ e k low high. counted-each a (b - a) e k low (omega arith),
+    λ f. each-counted a (b - a) (λ k low high. f k low (omega arith)),
+  )
+
+-- the same, where the test of each number decides a fact of it
+pub all-decides : (p : ℕ → Bool) (P : ℕ → Type 0) (a b : ℕ) → ((k : ℕ) → Decides (p k) (P k)) → Decides (all p (range a b)) ((k : ℕ) → a ≤ k → k < b → P k)
+all-decides p P a b d = (
+  λ e k low high. d k .0 (range-decides p a b .0 e k low high),
+  λ f. range-decides p a b .1 (λ k low high. d k .1 (f k low high)),
+)
+
+-- No element of a distinct list stands at two places.
+any-at : (x : ℕ) (xs : List ℕ) (k d : ℕ) → k < length xs → getD xs k d ≡ x → any (eqb x) xs ≡ true
+unfolding any
+any-at x [] k d h e = absurd (omega arith)
+any-at x (y ∷ ys) zero d h e = left-or (eqb x y) (any (eqb x) ys) (eq-eqb x y (sym e))
+any-at x (y ∷ ys) (suc k) d h e = right-or (eqb x y) (any (eqb x) ys) (any-at x ys k d (omega arith) e)
+
+any-where : (x : ℕ) (xs : List ℕ) (d : ℕ) → any (eqb x) xs ≡ true → (k : ℕ) × (k < length xs) × (getD xs k d ≡ x)
+unfolding any
+any-where x [] d e = absurd (false≢true e)
+any-where x (y ∷ ys) d e =
+    elim (or-either (eqb x y) (any (eqb x) ys) e) [
+      | inl here ↦ (0, omega arith, sym (eqb-true x y here))
+      | inr later ↦ let w = any-where x ys d later in (suc (w .0), omega (arith, w .1), w .2)
+    ]
+
+not-false : (b : Bool) → not b ≡ true → b ≡ true → ⊥
+not-false true p q = false≢true p
+not-false false p q = false≢true q
+
+not-of : (b : Bool) → (b ≡ true → ⊥) → not b ≡ true
+not-of true f = absurd (f refl)
+not-of false f = refl
+
+-- no number stands at two places
+abbrev pub Differ : List ℕ → ℕ → Type 0
+Differ xs d = (i j : ℕ) → i < length xs → j < length xs → getD xs i d ≡ getD xs j d → i ≡ j
+
+distinct-differ : (xs : List ℕ) (d : ℕ) → distinct xs ≡ true → Differ xs d
+unfolding distinct
+distinct-differ [] d e i j hi hj same = absurd (omega arith)
+distinct-differ (x ∷ xs) d e zero zero hi hj same = refl
+distinct-differ (x ∷ xs) d e zero (suc j) hi hj same =
+    absurd (not-false (any (eqb x) xs) (and-both (not (any (eqb x) xs)) (distinct xs) e .0) (any-at x xs j d (omega arith) (sym same)))
+distinct-differ (x ∷ xs) d e (suc i) zero hi hj same =
+    absurd (not-false (any (eqb x) xs) (and-both (not (any (eqb x) xs)) (distinct xs) e .0) (any-at x xs i d (omega arith) same))
+distinct-differ (x ∷ xs) d e (suc i) (suc j) hi hj same =
+    ap suc (distinct-differ xs d (and-both (not (any (eqb x) xs)) (distinct xs) e .1) i j (omega arith) (omega arith) same)
+
+differ-distinct : (xs : List ℕ) (d : ℕ) → Differ xs d → distinct xs ≡ true
+unfolding distinct
+differ-distinct [] d f = refl
+differ-distinct (x ∷ xs) d f =
+    both-and (not (any (eqb x) xs)) (distinct xs)
+    (not-of (any (eqb x) xs) (λ e. let w = any-where x xs d e in absurd (omega (arith, f 0 (suc (w .0)) (omega arith) (omega (arith, w .1)) (sym (w .2))))))
+    (differ-distinct xs d (λ i j hi hj same. omega (arith, f (suc i) (suc j) (omega arith) (omega arith) same)))
+
+pub distinct-decides : (xs : List ℕ) (d : ℕ) → Decides (distinct xs) (Differ xs d)
+distinct-decides xs d = (distinct-differ xs d, differ-distinct xs d)
