@@ -1,0 +1,47 @@
+"""What the Python scripts share: the marks of document 01, and asking the oracle."""
+
+import json
+import subprocess
+import sys
+from pathlib import Path
+
+NO_NODE = 2**32 - 1
+NO_WEIGHT = 2**64 - 1
+MAX_SUM = 2**40
+
+BINARY = Path(__file__).resolve().parent.parent / "target/oracle/oracle"
+
+
+def stop(why):
+    print(f"{sys.argv[0]}: {why}", file=sys.stderr)
+    sys.exit(2)
+
+
+def write(cases, out=sys.stdout):
+    for case in cases:
+        out.write(json.dumps(case) + "\n")
+
+
+def read(path):
+    try:
+        with open(path) as lines:
+            return [json.loads(line) for line in lines]
+    except OSError as why:
+        stop(f"{path}: {why.strerror}")
+    except ValueError as why:
+        stop(f"{path}: {why}")
+
+
+def need():
+    if not BINARY.exists():
+        stop("the oracle is missing; oracle/build makes it")
+
+
+def answers(cases, *flags):
+    """The cases with their answers; the oracle's own complaint, if it has one, has been printed."""
+    need()
+    text = "".join(json.dumps(case) + "\n" for case in cases)
+    run = subprocess.run([BINARY, "answer", *flags], input=text, stdout=subprocess.PIPE, text=True)
+    if run.returncode != 0:
+        sys.exit(2)
+    return [json.loads(line) for line in run.stdout.splitlines()]

@@ -1,0 +1,219 @@
+//! Puts the answer into a case. The crate's answers are taken where it has one; the numbered refusals
+//! around it are ours, in the order of document 01.
+
+use crate::constants::*;
+use crate::fail;
+use crate::fast_graph::{FastGraph, FastGraphEdge};
+use crate::fast_graph_builder::{FastGraphBuilder, ParamsWithOrder};
+use crate::input_graph::{Edge, InputGraph};
+use crate::json::Json;
+use crate::path_calculator::PathCalculator;
+use crate::preparation_graph::PreparationGraph;
+use crate::room::{contract_within, Room};
+use crate::shortest_path::ShortestPath;
+use crate::tables::{equally_long, is_permutation, longest_opening, read};
+use crate::witness_search::WitnessSearch;
+
+/// The crate unpacks a walk before anything is known of its length; tables that open into more links
+/// than this are left unanswered.
+const MOST_OPENED: u64 = 1 << 20;
+
+pub fn answer(case: &mut Json, with_peak: bool) {
+    match case.get("kind").word() {
+        "build" => build(case, with_peak),
+        "check" => case.set("number", Json::Number(if read(case).is_some() { 0 } else { 20 })),
+        "query" => query(case),
+        "search" => search(case),
+        kind => fail(&format!("there is no kind {kind}")),
+    }
+}
+
+fn no_answer(case: &mut Json, why: &str) {
+    case.set("no answer", Json::Word(why.to_string()));
+}
+
+fn build(case: &mut Json, with_peak: bool) {
+    let lent = case.get("lent");
+    let filled = case.get("filled_with").number();
+    let built = try_build(case, lent);
+    let after = match &built {
+        Ok((graph, _)) => after(lent, graph, filled, filled),
+        Err(10..=12) => after(lent, &FastGraph::default(), INVALID_NODE as u64, WEIGHT_MAX),
+        Err(_) => after(lent, &FastGraph::default(), filled, filled),
+    };
+    let (number, entries, peak) = match built {
+        Ok((graph, peak)) => (0, [graph.edges_fwd.len() as u64, graph.edges_bwd.len() as u64], peak),
+        Err(number) => (number, [0, 0], 0),
+    };
+    case.set("number", Json::Number(number));
+    case.set("entries", Json::of(&entries));
+    case.set("after", after);
+    if with_peak {
+        case.set("peak", Json::Number(peak as u64));
+    }
+}
+
+/// The hierarchy and the most live arcs, or the number of the refusal.
+fn try_build(case: &Json, lent: &Json) -> Result<(FastGraph, usize), u64> {
+    let order = case.get("order").ids();
+    let graph = links(case)?;
+    let (fwd, bwd) = (lent.get("fwd").ids(), lent.get("bwd").ids());
+    let nodes = graph.get_num_nodes();
+    if order.len() != nodes {
+        return Err(7);
+    }
+    if !is_permutation(&order) {
+        return Err(8);
+    }
+    if lent.get("ranks").id() < nodes
+        || lent.get("fwd_starts").id() < nodes + 1
+        || lent.get("bwd_starts").id() < nodes + 1
+        || !equally_long(&fwd)
+        || !equally_long(&bwd)
+    {
+        return Err(9);
+    }
+    let limit = case.get("limit").id();
+    let room = Room { pool: case.get("pool").id(), fwd: fwd[0], bwd: bwd[0] };
+    let peak = contract_within(&graph, &order, limit, &room)?;
+    let params = ParamsWithOrder::new(limit);
+    match FastGraphBuilder::build_with_order_with_params(&graph, &order, &params) {
+        Ok(built) => Ok((built, peak)),
+        Err(why) => fail(&why),
+    }
+}
+
+/// The links of a case, or refusals 1 to 6.
+fn links(case: &Json) -> Result<InputGraph, u64> {
+    let nodes = case.get("nodes").id();
+    let columns = case.get("links");
+    let (from, to) = (columns.get("from").ids(), columns.get("to").ids());
+    let weight = columns.get("weight").numbers();
+    if nodes > MAX_NODES {
+        return Err(1);
+    }
+    if !equally_long(&[from.len(), to.len(), weight.len()]) || from.len() > MAX_LINKS {
+        return Err(2);
+    }
+    let edge = |i| Edge { from: from[i], to: to[i], weight: weight[i] };
+    let edges: Vec<Edge> = (0..from.len()).map(edge).collect();
+    if edges.iter().any(|e| e.from >= nodes || e.to >= nodes) {
+        return Err(3);
+    }
+    if edges.iter().any(|e| e.from == e.to) {
+        return Err(4);
+    }
+    if edges.iter().any(|e| e.weight == 0) {
+        return Err(5);
+    }
+    if !edges.is_sorted_by(|a, b| (a.from, a.to) < (b.from, b.to)) {
+        return Err(6);
+    }
+    Ok(InputGraph::new(nodes, edges))
+}
+
+/// Every lent place: what was used, and then what the places beyond hold.
+fn after(lent: &Json, graph: &FastGraph, rest: u64, weight_rest: u64) -> Json {
+    let ids = |name: &str, used: &[usize]| {
+        column(lent.get(name).id(), used.iter().map(|&id| id as u64), rest)
+    };
+    let table = |name: &str, used: &[FastGraphEdge]| {
+        let lengths = lent.get(name).ids();
+        let columns = (0..5).map(|k| {
+            column(lengths[k], used.iter().map(|e| entry(e)[k]), if k == 2 { weight_rest } else { rest })
+        });
+        Json::List(columns.collect())
+    };
+    let columns = [
+        ("ranks", ids("ranks", &graph.ranks)),
+        ("fwd_starts", ids("fwd_starts", &graph.first_edge_ids_fwd)),
+        ("bwd_starts", ids("bwd_starts", &graph.first_edge_ids_bwd)),
+        ("fwd", table("fwd", &graph.edges_fwd)),
+        ("bwd", table("bwd", &graph.edges_bwd)),
+    ];
+    Json::Object(columns.map(|(name, column)| (name.to_string(), column)).into())
+}
+
+fn column(length: usize, used: impl Iterator<Item = u64>, rest: u64) -> Json {
+    let places: Vec<u64> = used.chain(std::iter::repeat(rest)).take(length).collect();
+    Json::of(&places)
+}
+
+/// An entry in the order of its columns.
+pub fn entry(e: &FastGraphEdge) -> [u64; 5] {
+    let ids = [e.base_node, e.adj_node, e.replaced_in_edge, e.replaced_out_edge];
+    let [base, adj, in_edge, out_edge] = ids.map(|id| id as u64);
+    [base, adj, e.weight, in_edge, out_edge]
+}
+
+fn query(case: &mut Json) {
+    let places = case.get("path_places").id();
+    let filled = case.get("filled_with").number();
+    let (number, found) = match try_query(case, places) {
+        Ok(found) => (0, found),
+        Err(Stop::Refused(number)) => (number, None),
+        Err(Stop::NoAnswer(why)) => return no_answer(case, why),
+    };
+    let (weight, walk) = found.map_or((WEIGHT_MAX, vec![]), |path| (path.weight, path.nodes));
+    case.set("number", Json::Number(number));
+    case.set("weight", Json::Number(weight));
+    case.set("length", Json::Number(walk.len() as u64));
+    case.set("path", column(places, walk.iter().map(|&node| node as u64), filled));
+}
+
+enum Stop {
+    Refused(u64),
+    NoAnswer(&'static str),
+}
+
+/// The route or "none".
+fn try_query(case: &Json, places: usize) -> Result<Option<ShortestPath>, Stop> {
+    let graph = read(case).ok_or(Stop::Refused(20))?;
+    let nodes = graph.get_num_nodes();
+    let (sources, targets) = (ends(case.get("sources")), ends(case.get("targets")));
+    let all = || sources.iter().chain(&targets);
+    if [&sources, &targets].iter().any(|ends| !(1..=MAX_ENDS).contains(&ends.len())) {
+        return Err(Stop::Refused(21));
+    }
+    if all().any(|&(node, _)| node >= nodes) {
+        return Err(Stop::Refused(22));
+    }
+    if all().any(|&(_, offset)| offset > MAX_SUM && offset != WEIGHT_MAX) {
+        return Err(Stop::Refused(23));
+    }
+    if places < nodes {
+        return Err(Stop::Refused(24));
+    }
+    if longest_opening(&graph) > MOST_OPENED {
+        return Err(Stop::NoAnswer("an entry opens into more than 2^20 links"));
+    }
+    let found = PathCalculator::new(nodes)
+        .calc_path_multiple_sources_and_targets(&graph, sources, targets);
+    match found {
+        Some(path) if path.nodes.len() > places => Err(Stop::Refused(25)),
+        found => Ok(found),
+    }
+}
+
+fn ends(list: &Json) -> Vec<(NodeId, Weight)> {
+    list.list().iter().map(|end| (end.list()[0].id(), end.list()[1].number())).collect()
+}
+
+fn search(case: &mut Json) {
+    const ASKS: &str = "asks_target_sum_answer_count";
+    let (start, avoid) = (case.get("start").id(), case.get("avoid").id());
+    let asks: Vec<Vec<u64>> = case.get(ASKS).list().iter().map(Json::numbers).collect();
+    if start == avoid || asks.iter().any(|ask| ask[0] as usize == avoid) {
+        return no_answer(case, "the crate does not search from or to the node it avoids");
+    }
+    let Ok(input_graph) = links(case) else { fail("a search has links that a build refuses") };
+    let graph = PreparationGraph::from_input_graph(&input_graph);
+    let limit = case.get("limit").id();
+    let mut witness_search = WitnessSearch::new(graph.get_num_nodes());
+    witness_search.init(start, avoid);
+    let answered = asks.iter().map(|ask| {
+        let weight = witness_search.find_max_weight(&graph, ask[0] as usize, ask[1], limit);
+        Json::of(&[ask[0], ask[1], weight, witness_search.settled() as u64])
+    });
+    case.set(ASKS, Json::List(answered.collect()));
+}

@@ -1,0 +1,101 @@
+//! The oracle: five files of the crate fast_paths, read unchanged from the folder FAST_PATHS_SRC, over
+//! stand-ins of ours. See ../README.md.
+
+/// The crate's progress lines go nowhere.
+macro_rules! debug {
+    ($($any:tt)*) => {};
+}
+
+/// The text of one of the five files. What follows it in its module is code of ours that needs its
+/// private parts.
+macro_rules! given {
+    ($file:literal) => {
+        include!(concat!(env!("FAST_PATHS_SRC"), "/", $file));
+    };
+}
+
+mod preparation_graph {
+    given!("preparation_graph.rs");
+}
+
+mod witness_search {
+    given!("witness_search.rs");
+
+    impl WitnessSearch {
+        pub fn settled(&self) -> usize {
+            self.settled_nodes
+        }
+    }
+}
+
+mod node_contractor {
+    given!("node_contractor.rs");
+
+    impl Shortcut {
+        pub fn ends(&self) -> (NodeId, NodeId) {
+            (self.from, self.to)
+        }
+
+        pub fn add_to(self, graph: &mut PreparationGraph) {
+            add_shortcut(graph, self)
+        }
+    }
+}
+
+#[allow(dead_code)] // the builds with default parameters
+mod fast_graph_builder {
+    use crate::priority_queue;
+    given!("fast_graph_builder.rs");
+}
+
+#[allow(dead_code)] // the query for single ends
+mod path_calculator {
+    given!("path_calculator.rs");
+}
+
+mod constants;
+mod fast_graph;
+mod heap_item;
+mod input_graph;
+mod priority_queue;
+mod shortest_path;
+mod valid_flags;
+
+mod answer;
+mod json;
+mod meshes;
+mod room;
+mod tables;
+mod timing;
+
+use std::io::{BufRead, BufWriter, Write};
+use std::path::Path;
+
+/// One line on what is wrong, and out.
+fn fail(why: &str) -> ! {
+    eprintln!("oracle: {why}");
+    std::process::exit(2)
+}
+
+fn main() {
+    let args: Vec<String> = std::env::args().skip(1).collect();
+    match args.iter().map(String::as_str).collect::<Vec<_>>()[..] {
+        ["answer"] => answer_all(false),
+        ["answer", "--peak"] => answer_all(true),
+        ["time", "--write", folder, ref names @ ..] => timing::time(names, Some(Path::new(folder))),
+        ["time", ref names @ ..] => timing::time(names, None),
+        _ => fail("usage: oracle answer [--peak] | oracle time [--write FOLDER] [GRAPH ...]"),
+    }
+}
+
+/// Standard input holds one case a line; each is printed again with its answer.
+fn answer_all(with_peak: bool) {
+    let mut out = BufWriter::new(std::io::stdout().lock());
+    for line in std::io::stdin().lock().lines() {
+        let mut case = json::Json::read(&line.unwrap_or_else(|why| fail(&why.to_string())));
+        answer::answer(&mut case, with_peak);
+        if writeln!(out, "{case}").is_err() {
+            return; // whoever read the answers has gone
+        }
+    }
+}

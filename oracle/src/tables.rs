@@ -1,0 +1,109 @@
+//! Added by us: the table check of document 01 (refusal 20), which the crate lacks.
+
+use crate::constants::{EdgeId, NodeId, INVALID_EDGE, MAX_NODES, MAX_SUM};
+use crate::fast_graph::{FastGraph, FastGraphEdge};
+use crate::json::Json;
+
+/// The hierarchy in the tables of a case, without the places beyond those used; or none, if it breaks
+/// a table rule.
+pub fn read(case: &Json) -> Option<FastGraph> {
+    let nodes = case.get("nodes").id();
+    let ranks = case.get("ranks").ids();
+    if nodes > MAX_NODES || ranks.len() < nodes || !is_permutation(&ranks[..nodes]) {
+        return None;
+    }
+    let (first_edge_ids_fwd, edges_fwd) = table(case.get("fwd_starts"), case.get("fwd"), nodes)?;
+    let (first_edge_ids_bwd, edges_bwd) = table(case.get("bwd_starts"), case.get("bwd"), nodes)?;
+    let graph = FastGraph {
+        ranks: ranks[..nodes].to_vec(),
+        edges_fwd,
+        first_edge_ids_fwd,
+        edges_bwd,
+        first_edge_ids_bwd,
+    };
+    let fits = entries_fit(&graph, &graph.first_edge_ids_fwd, &graph.edges_fwd, |e| {
+        (e.base_node, e.adj_node)
+    }) && entries_fit(&graph, &graph.first_edge_ids_bwd, &graph.edges_bwd, |e| {
+        (e.adj_node, e.base_node)
+    });
+    fits.then_some(graph)
+}
+
+/// Whether the numbers below their count stand there, each once.
+pub fn is_permutation(ids: &[usize]) -> bool {
+    let mut seen = vec![false; ids.len()];
+    ids.iter().all(|&id| id < seen.len() && !std::mem::replace(&mut seen[id], true))
+}
+
+pub fn equally_long(columns: &[usize]) -> bool {
+    columns.iter().all(|&length| length == columns[0])
+}
+
+/// The starts and the used entries of one table, if its columns and starts keep the rules.
+fn table(starts: &Json, columns: &Json, nodes: usize) -> Option<(Vec<EdgeId>, Vec<FastGraphEdge>)> {
+    let columns: Vec<Vec<u64>> = columns.list().iter().map(Json::numbers).collect();
+    let lengths: Vec<usize> = columns.iter().map(Vec::len).collect();
+    let mut starts = starts.ids();
+    if !equally_long(&lengths) || starts.len() < nodes + 1 {
+        return None;
+    }
+    starts.truncate(nodes + 1);
+    if starts[0] != 0 || !starts.is_sorted() || starts[nodes] > lengths[0] {
+        return None;
+    }
+    let id = |column: usize, i: usize| columns[column][i] as usize;
+    let edge = |i| FastGraphEdge::new(id(0, i), id(1, i), columns[2][i], id(3, i), id(4, i));
+    let edges = (0..starts[nodes]).map(edge).collect();
+    Some((starts, edges))
+}
+
+/// Whether every entry of one table keeps the rules. `ends` gives the tail and head of an entry's arc:
+/// that is all the two tables differ in.
+fn entries_fit(
+    graph: &FastGraph,
+    starts: &[EdgeId],
+    edges: &[FastGraphEdge],
+    ends: fn(&FastGraphEdge) -> (NodeId, NodeId),
+) -> bool {
+    let rank = |node: NodeId| graph.ranks.get(node);
+    let replaces = |e: &FastGraphEdge| {
+        let in_edge = graph.edges_bwd.get(e.replaced_in_edge)?;
+        let out_edge = graph.edges_fwd.get(e.replaced_out_edge)?;
+        let fits = in_edge.base_node == out_edge.base_node
+            && rank(in_edge.base_node)? < rank(e.base_node)?
+            && (in_edge.adj_node, out_edge.adj_node) == ends(e)
+            && in_edge.weight.checked_add(out_edge.weight)? == e.weight;
+        Some(fits)
+    };
+    let fits = |e: &FastGraphEdge, range: usize| {
+        rank(e.base_node) == Some(&range)
+            && rank(e.adj_node) > Some(&range)
+            && (1..=MAX_SUM).contains(&e.weight)
+            && ((e.replaced_in_edge, e.replaced_out_edge) == (INVALID_EDGE, INVALID_EDGE)
+                || replaces(e) == Some(true))
+    };
+    starts.windows(2).enumerate().all(|(range, stretch)| {
+        edges[stretch[0]..stretch[1]].iter().all(|e| fits(e, range))
+    })
+}
+
+/// The most links that any entry opens into. Replaced entries are of lower rank, so going up the
+/// ranks their numbers are known.
+pub fn longest_opening(graph: &FastGraph) -> u64 {
+    let mut fwd: Vec<u64> = Vec::new();
+    let mut bwd: Vec<u64> = Vec::new();
+    for rank in 0..graph.ranks.len() {
+        let opening = |e: &FastGraphEdge| match e.is_shortcut() {
+            true => bwd[e.replaced_in_edge] + fwd[e.replaced_out_edge],
+            false => 1,
+        };
+        let of_rank = |starts: &[EdgeId], edges: &[FastGraphEdge]| -> Vec<u64> {
+            edges[starts[rank]..starts[rank + 1]].iter().map(opening).collect()
+        };
+        let more_fwd = of_rank(&graph.first_edge_ids_fwd, &graph.edges_fwd);
+        let more_bwd = of_rank(&graph.first_edge_ids_bwd, &graph.edges_bwd);
+        fwd.extend(more_fwd);
+        bwd.extend(more_bwd);
+    }
+    fwd.into_iter().chain(bwd).max().unwrap_or(0)
+}
