@@ -1,0 +1,5 @@
+-- The proof of the demands, from the bottom up.
+pub mod Cases
+pub mod Paths
+pub mod Graphs
+pub mod Searches

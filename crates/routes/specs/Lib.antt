@@ -1,0 +1,4 @@
+-- The demands, stated of the definitions.
+pub mod Paths
+pub mod Demand
+pub mod Promise
