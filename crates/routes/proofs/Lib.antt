@@ -3,3 +3,4 @@ pub mod Cases
 pub mod Paths
 pub mod Graphs
 pub mod Searches
+pub mod Contraction

@@ -23,9 +23,18 @@ module _ {E : Edges} where
   said (stay same none) p q = stay (p ∙ same) (q ∙ none)
   said {c = c} (step d x y e sum r) p q = step {a = c} d x y (rw p e) (q ∙ sum) r
 
+  pub edge-path : {a b w : ℕ} → E a b w → Path E b a w
+  edge-path {b = b} {w = w} e = step {w = w} b w 0 e (omega arith) (stay refl refl)
+
+  pub edge-within : {a b w : ℕ} → E a b w → Within E a b w
+  edge-within {w = w} e = (w, edge-path e, omega arith)
+
   pub join : {a b c v w : ℕ} → Path E b a v → Path E c b w → Path E c a (v + w)
   join (stay same none) q = said q same (omega arith)
   join {v = v} {w = w} (step d x y e sum p) q = step {w = v + w} d x (y + w) e (omega arith) (join p q)
+
+  pub within-stay : {a b : ℕ} → a ≡ b → Within E a b 0
+  within-stay same = (0, stay same refl, omega arith)
 
   pub within-more : {a b v w : ℕ} → Within E a b v → v ≤ w → Within E a b w
   within-more p h = (p .0, p .1, omega (arith, p .2))
