@@ -46,14 +46,14 @@ Arcs g u v w = (c : ℕ) × In (record { tail = u; head = v; weight = w; centre 
 pub by-ends : (x : Arc) {u v : ℕ} → x .tail ≡ u → x .head ≡ v → record { tail = u; head = v; weight = x .weight; centre = x .centre } ≡ x
 by-ends x p q = λ i. record { tail = sym p i; head = sym q i; weight = x .weight; centre = x .centre }
 
-joined-ends : (s a : Arc) → joins s a ≡ true → (a .tail ≡ s .tail) × (a .head ≡ s .head)
+pub joined-ends : (s a : Arc) → joins s a ≡ true → (a .tail ≡ s .tail) × (a .head ≡ s .head)
 unfolding joins
 joined-ends s a e =
     let both = and-both (eqb (a .tail) (s .tail)) (eqb (a .head) (s .head)) e in
     (eqb-true (a .tail) (s .tail) (both .0), eqb-true (a .head) (s .head) (both .1))
 
 -- a reduced arc keeps its ends, and weighs no more than either
-reduced : (s a : Arc) → joins s a ≡ true → (reduce s a .tail ≡ a .tail) × (reduce s a .head ≡ a .head) × (reduce s a .weight ≤ a .weight) × (reduce s a .weight ≤ s .weight)
+pub reduced : (s a : Arc) → joins s a ≡ true → (reduce s a .tail ≡ a .tail) × (reduce s a .head ≡ a .head) × (reduce s a .weight ≤ a .weight) × (reduce s a .weight ≤ s .weight)
 unfolding reduce
 reduced s a e =
     let ends = joined-ends s a e in

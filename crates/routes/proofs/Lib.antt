@@ -4,3 +4,5 @@ pub mod Paths
 pub mod Graphs
 pub mod Searches
 pub mod Contraction
+pub mod Positions
+pub mod Levels
