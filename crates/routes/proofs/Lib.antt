@@ -6,3 +6,4 @@ pub mod Searches
 pub mod Contraction
 pub mod Positions
 pub mod Levels
+pub mod Runs

@@ -2,6 +2,7 @@
 use mathlib.Core.Path.{_≡_, refl, sym, _∙_}
 use Prim.Native.Nat.{ℕ, _+_, _≤_}
 use native.Mathlib.Omega.{arith}
+use native.Mathlib.Decide.{ℕ-discrete}
 use Rattle.routes.specs.Paths.{Edges, Path, stay, step, Within}
 
 -- each edge has one of the same ends that weighs no more
@@ -41,6 +42,17 @@ module _ {E : Edges} where
 
   pub within-join : {a b c v w : ℕ} → Within E a b v → Within E b c w → Within E a c (v + w)
   within-join p q = (p .0 + q .0, join (p .1) (q .1), omega (arith, p .2, q .2))
+
+  -- a path that leads on has a last edge, with a path before it, for no more
+  pub last-edge : {a b w : ℕ} → Path E b a w → (a ≡ b → ⊥) → (u : ℕ) × (x : ℕ) × (y : ℕ) × Path E u a y × E u b x × (y + x ≤ w)
+  last-edge (stay same none) apart = absurd (apart same)
+  last-edge {a} {b} {w} (step c x y e sum p) apart =
+      elim (ℕ-discrete c b) [
+        | yes here ↦ (a, x, 0, stay refl refl, rw here at e, omega arith)
+        | no on ↦
+            let l = last-edge p on in
+            (l .0, l .1, x + l .2, step {w = x + l .2} c x (l .2) e refl (l .3), l .4, omega (arith, l .5))
+      ]
 
   -- where no edge leads to a node, no path leaves others for it
   pub never-at : {v a b w : ℕ} → ((u c x : ℕ) → E u c x → c ≡ v → ⊥) → Path E b a w → (a ≡ v → ⊥) → b ≡ v → ⊥

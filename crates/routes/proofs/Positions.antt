@@ -33,21 +33,21 @@ module _ {A : Type 0} (p : A → Bool) where
   position-passes [] d h = absurd (omega arith)
   position-passes (x ∷ xs) d h =
       on-test (p x)
-        (λ t. rw (t, position) t)
-        (λ t. rw (t, position) (position-passes xs d (le-of-suc-le-suc (rw (t, position) at h))))
+      (λ t. rw (t, position) t)
+      (λ t. rw (t, position) (position-passes xs d (le-of-suc-le-suc (rw (t, position) at h))))
 
   pub position-below : (xs : List A) (x : A) → In x xs → p x ≡ true → position p xs < length xs
   unfolding position
   position-below [] x m t = absurd (List·Memᴰ·not-nil m)
   position-below (y ∷ ys) x m t =
       on-test (p y)
-        (λ u. rw (u, position) (omega arith))
-        (λ u.
-        rw (u, position)
-          (elim (List·Memᴰ·cases-cons m) [
-            | inl here ↦ absurd (false≢true (sym u ∙ ap p (sym here) ∙ t))
-            | inr later ↦ omega (arith, position-below ys x later t)
-          ]))
+      (λ u. rw (u, position) (omega arith))
+      (λ u.
+      rw (u, position)
+      (elim (List·Memᴰ·cases-cons m) [
+        | inl here ↦ absurd (false≢true (sym u ∙ ap p (sym here) ∙ t))
+        | inr later ↦ omega (arith, position-below ys x later t)
+      ]))
 
   pub position-first : (xs : List A) (k : ℕ) (d : A) → k < length xs → p (getD xs k d) ≡ true → position p xs ≤ k
   unfolding position
@@ -55,8 +55,8 @@ module _ {A : Type 0} (p : A → Bool) where
   position-first (y ∷ ys) zero d h t = rw (t, position) zero-le
   position-first (y ∷ ys) (suc k) d h t =
       on-test (p y)
-        (λ u. rw (u, position) zero-le)
-        (λ u. rw (u, position) (suc-le-suc (position-first ys k d (omega arith) t)))
+      (λ u. rw (u, position) zero-le)
+      (λ u. rw (u, position) (suc-le-suc (position-first ys k d (omega arith) t)))
 
 -- of a number: what stands there is it
 pub position-is : (xs : List ℕ) (u d : ℕ) → position (eqb u) xs < length xs → getD xs (position (eqb u) xs) d ≡ u
