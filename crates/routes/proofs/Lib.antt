@@ -7,3 +7,8 @@ pub mod Contraction
 pub mod Positions
 pub mod Levels
 pub mod Runs
+pub mod Accepted
+pub mod Pigeonhole
+pub mod Starts
+pub mod Prefixes
+pub mod BuiltTables

@@ -221,3 +221,11 @@ module _ (c : BuildCall) (ls : List Link) (d : ℕ) (differ : Differ (c .order) 
             (rest .0 (level-of v (b .graph)) (rw (stepped .levels) (Memᴰ·append-right (b .levels) (List·Memᴰ·head refl))))
             (rest .2),
       )
+
+-- what the tables held at the last rank they hold at the end
+pub levels-fit : (c : BuildCall) (vs : List ℕ) (b k : Building) → rank-steps c vs b ≡ went k → Fit c (b .levels) → Fit c (k .levels)
+unfolding rank-steps
+levels-fit c [] b k e f = rw (← (went-same e)) f
+levels-fit c (v ∷ vs) b k e f =
+    let s = both-went (rank-step c v b) _ k e in
+    levels-fit c vs (s .0) k (s .2) (rank-stepped c v b (s .0) (s .1) .fit)

@@ -11,6 +11,10 @@ maxLinks = 16384
 abbrev pub maxEnds : ℕ
 maxEnds = 16
 
+-- "Link weight 1 to 4,294,967,295": what its column can hold
+abbrev pub maxLinkWeight : ℕ
+maxLinkWeight = 2 ^ 32 - 1
+
 -- of a pair sum, of a table weight and of an offset that counts
 abbrev pub maxWeight : ℕ
 maxWeight = 2 ^ 40

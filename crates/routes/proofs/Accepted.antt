@@ -1,0 +1,150 @@
+-- What an accepted call gives: each row that was not met.
+use mathlib.Core.Path.{_≡_, refl, sym, _∙_, ap}
+use mathlib.Core.Logic.{_⊎_, inl, inr}
+use mathlib.Core.Bool.{Bool, true, false, not, _&&_, _||_, true≢false, false≢true}
+use mathlib.Core.List.{List, [], _∷_, _++_, map, List·Memᴰ·head, List·Memᴰ·tail, List·Memᴰ·cases-cons, List·Memᴰ·not-nil}
+use Prim.Native.Nat.{ℕ, zero, suc, _+_, _≤_, _<_}
+use native.Mathlib.Omega.{arith}
+use lib.Dec.{eqb, ltb, leb}
+use lib.ListN.{length, getD}
+use borrow.Author.Tests.{eqb-true, eqb-false, eq-eqb, ne-eqb, ltb-true, ltb-false, leb-true, not-true}
+use Rattle.rules.specs.Numbers.{maxNodes, maxLinks}
+use Rattle.rules.specs.Lists.{all, any, distinct}
+use Rattle.rules.specs.Columns.{Links, Link, linkList, Table, Hierarchy, equally-long, EquallyLong}
+use Rattle.rules.specs.Refusals.{Row, row, first-met, BuildCall, names-none-above, loop, goes-before, ascending, columns-fit, table-short, lent-short, graph-rows, order-rows, build-refusal}
+use Rattle.rules.proofs.Decides.{and-both, or-either, left-or, right-or}
+use Rattle.rules.proofs.TablesDecided.{columns-decided}
+use Rattle.routes.specs.Paths.{In}
+use Rattle.routes.proofs.Cases.{on-test}
+
+-- the first row was not met, nor any other
+pub not-met : (n : ℕ) (b : Bool) (rs : List Row) → first-met (row (suc n) b ∷ rs) ≡ 0 → (b ≡ false) × (first-met rs ≡ 0)
+unfolding first-met
+not-met n true rs e = absurd (omega (arith, e))
+not-met n false rs e = (refl, e)
+
+pub not-not : (b : Bool) → not b ≡ false → b ≡ true
+not-not true e = refl
+not-not false e = absurd (true≢false e)
+
+pub neither : (a b : Bool) → (a || b) ≡ false → (a ≡ false) × (b ≡ false)
+neither true b e = absurd (true≢false e)
+neither false b e = (refl, e)
+
+module _ {A : Type 0} (p : A → Bool) where
+  pub all-each : (xs : List A) → all p xs ≡ true → (x : A) → In x xs → p x ≡ true
+  unfolding all
+  all-each [] e x m = absurd (List·Memᴰ·not-nil m)
+  all-each (y ∷ ys) e x m =
+      let b = and-both (p y) (all p ys) e in
+      elim (List·Memᴰ·cases-cons m) [
+        | inl here ↦ ap p here ∙ b .0
+        | inr later ↦ all-each ys (b .1) x later
+      ]
+
+  pub none-any : (xs : List A) → any p xs ≡ false → (x : A) → In x xs → p x ≡ false
+  unfolding any
+  none-any [] e x m = absurd (List·Memᴰ·not-nil m)
+  none-any (y ∷ ys) e x m =
+      let b = neither (p y) (any p ys) e in
+      elim (List·Memᴰ·cases-cons m) [
+        | inl here ↦ ap p here ∙ b .0
+        | inr later ↦ none-any ys (b .1) x later
+      ]
+
+-- Links go before one another by (tail, head).
+abbrev pub Before : Link → Link → Type 0
+Before k l = (k .tail < l .tail) ⊎ ((k .tail ≡ l .tail) × (k .head < l .head))
+
+before-test : (k l : Link) → goes-before k l ≡ true → Before k l
+unfolding goes-before
+before-test k l e =
+    elim (or-either (ltb (k .tail) (l .tail)) _ e) [
+      | inl lower ↦ inl (ltb-true (k .tail) (l .tail) lower)
+      | inr same ↦
+          let b = and-both _ _ same in
+          inr (eqb-true (k .tail) (l .tail) (b .0), ltb-true (k .head) (l .head) (b .1))
+    ]
+
+before-trans : (j k l : Link) → Before j k → Before k l → Before j l
+before-trans j k l (inl p) (inl q) = inl (omega arith)
+before-trans j k l (inl p) (inr q) = inl (omega (arith, q .0))
+before-trans j k l (inr p) (inl q) = inl (omega (arith, p .0))
+before-trans j k l (inr p) (inr q) = inr (p .0 ∙ q .0, omega (arith, p .1, q .1))
+
+pub ascending-before : (k : Link) (ls : List Link) → ascending (k ∷ ls) ≡ true → ((l : Link) → In l ls → Before k l) × (ascending ls ≡ true)
+unfolding ascending
+ascending-before k [] e = (λ l m. absurd (List·Memᴰ·not-nil m), refl)
+ascending-before k (j ∷ ls) e =
+    let b = and-both (goes-before k j) (ascending (j ∷ ls)) e in
+    let first = before-test k j (b .0) in
+    let rest = ascending-before j ls (b .1) in (
+      λ l m.
+          elim (List·Memᴰ·cases-cons m) [
+            | inl here ↦ rw here first
+            | inr later ↦ before-trans k j l first (rest .0 l later)
+          ],
+      b .1,
+    )
+
+-- An accepted graph and order.
+pub record AcceptedBuild (c : BuildCall) : Type 0 where
+  pub nodes : c .nodes ≤ maxNodes
+  pub below : (l : Link) → In l (linkList (c .links)) → (l .tail < c .nodes) × (l .head < c .nodes)
+  pub loopless : (l : Link) → In l (linkList (c .links)) → l .tail ≡ l .head → ⊥
+  pub positive : (l : Link) → In l (linkList (c .links)) → 1 ≤ l .weight
+  pub links-ascend : ascending (linkList (c .links)) ≡ true
+  pub order-length : length (c .order) ≡ c .nodes
+  pub order-below : (v : ℕ) → In v (c .order) → v < c .nodes
+  pub order-distinct : distinct (c .order) ≡ true
+  pub ranks-room : c .nodes ≤ length (c .lent .ranks)
+  pub fwd-starts : suc (c .nodes) ≤ length (c .lent .forward .starts)
+  pub fwd-columns : EquallyLong (c .lent .forward)
+  pub bwd-starts : suc (c .nodes) ≤ length (c .lent .backward .starts)
+  pub bwd-columns : EquallyLong (c .lent .backward)
+
+table-long : (n : ℕ) (t : Table) → table-short n t ≡ false → (suc n ≤ length (t .starts)) × EquallyLong t
+unfolding table-short
+table-long n t e =
+    let b = neither (ltb (length (t .starts)) (suc n)) (not (equally-long t)) e in
+    (ltb-false (length (t .starts)) (suc n) (b .0), columns-decided t .0 (not-not (equally-long t) (b .1)))
+
+not-zero : (w : ℕ) → eqb w 0 ≡ false → 1 ≤ w
+not-zero w e = omega (arith, eqb-false w 0 e)
+
+pub accepted-build : (c : BuildCall) → build-refusal c ≡ 0 → AcceptedBuild c
+unfolding build-refusal graph-rows order-rows lent-short names-none-above loop
+accepted-build c e =
+    let r1 = not-met 0 _ _ e in
+    let r2 = not-met 1 _ _ (r1 .1) in
+    let r3 = not-met 2 _ _ (r2 .1) in
+    let r4 = not-met 3 _ _ (r3 .1) in
+    let r5 = not-met 4 _ _ (r4 .1) in
+    let r6 = not-met 5 _ _ (r5 .1) in
+    let r7 = not-met 6 _ _ (r6 .1) in
+    let r8 = not-met 7 _ _ (r7 .1) in
+    let r9 = not-met 8 _ _ (r8 .1) in
+    let order = and-both _ _ (not-not _ (r8 .0)) in
+    let room = neither _ _ (r9 .0) in
+    let room′ = neither _ _ (room .0) in
+    let room″ = neither _ _ (room′ .0) in
+    let fwd = table-long (c .nodes) (c .lent .forward) (room″ .1) in
+    let bwd = table-long (c .nodes) (c .lent .backward) (room′ .1) in
+    record {
+      nodes = ltb-false maxNodes (c .nodes) (r1 .0);
+      below =
+          λ l m.
+          let b = and-both _ _ (all-each (names-none-above (c .nodes)) (linkList (c .links)) (not-not _ (r3 .0)) l m) in
+          (ltb-true (l .tail) (c .nodes) (b .0), ltb-true (l .head) (c .nodes) (b .1));
+      loopless = λ l m. eqb-false (l .tail) (l .head) (none-any loop (linkList (c .links)) (r4 .0) l m);
+      positive = λ l m. not-zero (l .weight) (none-any _ (linkList (c .links)) (r5 .0) l m);
+      links-ascend = not-not _ (r6 .0);
+      order-length = eqb-true (length (c .order)) (c .nodes) (not-not _ (r7 .0));
+      order-below = λ v m. ltb-true v (c .nodes) (all-each (λ u. ltb u (c .nodes)) (c .order) (order .0) v m);
+      order-distinct = order .1;
+      ranks-room = ltb-false (length (c .lent .ranks)) (c .nodes) (room″ .0);
+      fwd-starts = fwd .0;
+      fwd-columns = fwd .1;
+      bwd-starts = bwd .0;
+      bwd-columns = bwd .1;
+    }

@@ -1,0 +1,153 @@
+-- Lists laid end to end: where each begins, and what stands there.
+use mathlib.Core.Path.{_≡_, refl, sym, _∙_, ap}
+use mathlib.Core.Logic.{_⊎_, inl, inr}
+use mathlib.Core.List.{List, [], _∷_, _++_, map, List·Memᴰ·head, List·Memᴰ·tail, List·Memᴰ·cases-cons, List·Memᴰ·not-nil, Memᴰ·append-left, Memᴰ·append-right, List·Memᴰ·append-cases}
+use Prim.Native.Nat.{ℕ, zero, suc, _+_, _-_, _*_, _≤_, _<_, zero-le}
+use native.Mathlib.Omega.{arith}
+use native.Mathlib.Decide.{ℕ-discrete}
+use native.Mathlib.Nat.{zero-add, add-assoc, mul-suc}
+use lib.ListN.{length, getD, drop, length-append, length-drop, length-map, List·getD-append}
+use lib.Seq.{getD-append-add}
+use Rattle.rules.specs.Lists.{flat-map, over, count-from, range}
+use Rattle.rules.specs.Build.{running-sums}
+use Rattle.routes.specs.Paths.{In}
+
+-- the first r numbers together
+unfoldable pub prefix : List ℕ → ℕ → ℕ
+prefix xs zero = 0
+prefix [] (suc r) = 0
+prefix (x ∷ xs) (suc r) = x + prefix xs r
+
+pub prefix-next : (xs : List ℕ) (r d : ℕ) → r < length xs → prefix xs (suc r) ≡ prefix xs r + getD xs r d
+unfolding prefix
+prefix-next [] r d h = absurd (omega arith)
+prefix-next (x ∷ xs) zero d h = omega arith
+prefix-next (x ∷ xs) (suc r) d h = omega (arith, prefix-next xs r d (omega arith))
+
+pub prefix-most : (xs : List ℕ) (r : ℕ) → r ≤ length xs → prefix xs r ≤ prefix xs (length xs)
+unfolding prefix
+prefix-most xs zero h = zero-le
+prefix-most [] (suc r) h = absurd (omega arith)
+prefix-most (x ∷ xs) (suc r) h = omega (arith, prefix-most xs r (omega arith))
+
+pub sums-at : (xs : List ℕ) (a r d : ℕ) → r ≤ length xs → getD (running-sums a xs) r d ≡ a + prefix xs r
+unfolding running-sums prefix
+sums-at [] a zero d h = omega arith
+sums-at [] a (suc r) d h = absurd (omega arith)
+sums-at (x ∷ xs) a zero d h = omega arith
+sums-at (x ∷ xs) a (suc r) d h = omega (arith, sums-at xs (a + x) r d (omega arith))
+
+pub sums-length : (xs : List ℕ) (a : ℕ) → length (running-sums a xs) ≡ suc (length xs)
+unfolding running-sums
+sums-length [] a = refl
+sums-length (x ∷ xs) a = ap suc (sums-length xs (a + x))
+
+module _ {A B : Type 0} (f : A → List B) where
+  abbrev pub sizes : List A → List ℕ
+  sizes xs = map (λ x. length (f x)) xs
+
+  pub flat-length : (xs : List A) → length (flat-map f xs) ≡ prefix (sizes xs) (length xs)
+  unfolding flat-map prefix
+  flat-length [] = refl
+  flat-length (x ∷ xs) = length-append (f x) (flat-map f xs) ∙ ap (λ n. length (f x) + n) (flat-length xs)
+
+  -- what stands i places after the start of the list of the r-th
+  pub flat-at : (xs : List A) (r i : ℕ) (a : A) (b : B) → r < length xs → i < length (f (getD xs r a)) →
+      getD (flat-map f xs) (prefix (sizes xs) r + i) b ≡ getD (f (getD xs r a)) i b
+  unfolding flat-map prefix
+  flat-at [] r i a b h k = absurd (omega arith)
+  flat-at (x ∷ xs) zero i a b h k = rw (zero-add i) (List·getD-append (f x) (flat-map f xs) b i k)
+  flat-at (x ∷ xs) (suc r) i a b h k =
+      rw (add-assoc (length (f x)) (prefix (sizes xs) r) i)
+      (getD-append-add (f x) (flat-map f xs) (prefix (sizes xs) r + i) b ∙ flat-at xs r i a b (omega arith) k)
+
+  pub in-flat : (y : B) (xs : List A) → In y (flat-map f xs) → (x : A) × In x xs × In y (f x)
+  unfolding flat-map
+  in-flat y [] m = absurd (List·Memᴰ·not-nil m)
+  in-flat y (x ∷ xs) m =
+      elim (List·Memᴰ·append-cases (f x) m) [
+        | inl here ↦ (x, List·Memᴰ·head refl, here)
+        | inr later ↦ let r = in-flat y xs later in (r .0, List·Memᴰ·tail (r .1), r .2)
+      ]
+
+  pub flat-in : (y : B) (xs : List A) (x : A) → In x xs → In y (f x) → In y (flat-map f xs)
+  unfolding flat-map
+  flat-in y [] x m n = absurd (List·Memᴰ·not-nil m)
+  flat-in y (z ∷ xs) x m n =
+      elim (List·Memᴰ·cases-cons m) [
+        | inl here ↦ Memᴰ·append-left (flat-map f xs) (rw here at n)
+        | inr later ↦ Memᴰ·append-right (f z) (flat-in y xs x later n)
+      ]
+
+  -- no list longer than k: all together no longer than k for each
+  pub flat-at-most : (k : ℕ) (xs : List A) → ((x : A) → In x xs → length (f x) ≤ k) → length (flat-map f xs) ≤ k * length xs
+  unfolding flat-map
+  flat-at-most k [] h = zero-le
+  flat-at-most k (x ∷ xs) h =
+      omega (
+        arith,
+        length-append (f x) (flat-map f xs),
+        mul-suc k (length xs),
+        h x (List·Memᴰ·head refl),
+        flat-at-most k xs (λ y m. h y (List·Memᴰ·tail m)),
+      )
+
+module _ {A : Type 0} where
+  pub over-at : (lent values : List A) (k : ℕ) (d : A) → k < length values → getD (over lent values) k d ≡ getD values k d
+  unfolding over
+  over-at lent values k d h = List·getD-append values (drop (length values) lent) d k h
+
+  pub over-length : (lent values : List A) → length values ≤ length lent → length (over lent values) ≡ length lent
+  unfolding over
+  over-length lent values h = simp (length-append, length-drop) (omega arith)
+
+pub map-at : {A B : Type 0} (f : A → B) (xs : List A) (k : ℕ) (a : A) (b : B) → k < length xs → getD (map f xs) k b ≡ f (getD xs k a)
+map-at f [] k a b h = absurd (omega arith)
+map-at f (x ∷ xs) zero a b h = refl
+map-at f (x ∷ xs) (suc k) a b h = map-at f xs k a b (omega arith)
+
+-- numbers counted on
+pub in-counted : (a n k : ℕ) → In k (count-from a n) → (a ≤ k) × (k < a + n)
+unfolding count-from
+in-counted a zero k m = absurd (List·Memᴰ·not-nil m)
+in-counted a (suc n) k m =
+    elim (List·Memᴰ·cases-cons m) [
+      | inl here ↦ (omega arith, omega arith)
+      | inr later ↦ let r = in-counted (suc a) n k later in (omega (arith, r .0), omega (arith, r .1))
+    ]
+
+pub counted-in : (a n k : ℕ) → a ≤ k → k < a + n → In k (count-from a n)
+unfolding count-from
+counted-in a zero k low high = absurd (omega arith)
+counted-in a (suc n) k low high =
+    elim (ℕ-discrete k a) [
+      | yes same ↦ List·Memᴰ·head same
+      | no more ↦ List·Memᴰ·tail (counted-in (suc a) n k (omega arith) (omega arith))
+    ]
+
+pub counted-at : (a n k d : ℕ) → k < n → getD (count-from a n) k d ≡ a + k
+unfolding count-from
+counted-at a zero k d h = absurd (omega arith)
+counted-at a (suc n) zero d h = omega arith
+counted-at a (suc n) (suc k) d h = omega (arith, counted-at (suc a) n k d (omega arith))
+
+pub counted-length : (a n : ℕ) → length (count-from a n) ≡ n
+unfolding count-from
+counted-length a zero = refl
+counted-length a (suc n) = ap suc (counted-length (suc a) n)
+
+pub in-range : (a b k : ℕ) → In k (range a b) → (a ≤ k) × (k < b)
+unfolding range
+in-range a b k m = let r = in-counted a (b - a) k m in (r .0, omega (arith, r .0, r .1))
+
+pub range-in : (a b k : ℕ) → a ≤ k → k < b → In k (range a b)
+unfolding range
+range-in a b k low high = counted-in a (b - a) k low (omega arith)
+
+pub range-length : (a b : ℕ) → length (range a b) ≡ b - a
+unfolding range
+range-length a b = counted-length a (b - a)
+
+pub range-at : (a b k d : ℕ) → k < b - a → getD (range a b) k d ≡ a + k
+unfolding range
+range-at a b k d h = counted-at a (b - a) k d h
