@@ -28,16 +28,16 @@ use Rattle.routes.proofs.Starts.{Contracted, ranked, in-map, map-in}
 use Rattle.routes.proofs.Prefixes.{prefix, prefix-next, prefix-most, sums-at, sums-length, sizes, flat-length, flat-at, in-flat, flat-in, over-at, over-length, map-at, counted-at, counted-length, in-range, range-in, range-length, range-at}
 
 -- nothing, where a list is asked beyond its end
-no-arc : Arc
+pub no-arc : Arc
 no-arc = record { tail = 0; head = 0; weight = 0; centre = 0 }
 
-no-raw : Raw
+pub no-raw : Raw
 no-raw = record { base = 0; neighbour = 0; weight = 0; centre = 0 }
 
-no-level : Level
+pub no-level : Level
 no-level = record { node = 0; outs = []; ins = [] }
 
-no-entry : Entry
+pub no-entry : Entry
 no-entry = record { base = 0; neighbour = 0; weight = 0; in-number = 0; out-number = 0 }
 
 -- an entry of a table that was laid
@@ -57,7 +57,7 @@ laid-entry lent starts es e z h =
     col column f d = over-at column (map f es) e d (rw (length-map es f) h) ∙ map-at f es e z d h
 
 -- the ends of an arc, by side
-ends-by-side : (s : Side) (x y : Arc) → own-end s x ≡ own-end s y → neighbour-of s x ≡ neighbour-of s y → (x .tail ≡ y .tail) × (x .head ≡ y .head)
+pub ends-by-side : (s : Side) (x y : Arc) → own-end s x ≡ own-end s y → neighbour-of s x ≡ neighbour-of s y → (x .tail ≡ y .tail) × (x .head ≡ y .head)
 unfolding own-end neighbour-of
 ends-by-side forward x y p q = (p, q)
 ends-by-side backward x y p q = (q, p)
@@ -68,18 +68,18 @@ pub record Kept (r : Raw) (e : Entry) : Type 0 where
   pub neighbour : e .neighbour ≡ r .neighbour
   pub weight : e .weight ≡ r .weight
 
-finish-keeps : (fwd bwd : List Raw) (s : Side) (r : Raw) → Kept r (finish fwd bwd s r)
+pub finish-keeps : (fwd bwd : List Raw) (s : Side) (r : Raw) → Kept r (finish fwd bwd s r)
 unfolding finish open-entry
 finish-keeps fwd bwd s r =
     on-test (eqb (r .centre) invalid)
     (λ t. rw (t, finish) (record { base = refl; neighbour = refl; weight = refl }))
     (λ t. rw (t, finish) (record { base = refl; neighbour = refl; weight = refl }))
 
-finish-plain : (fwd bwd : List Raw) (s : Side) (r : Raw) → r .centre ≡ invalid → (finish fwd bwd s r .in-number ≡ invalid) × (finish fwd bwd s r .out-number ≡ invalid)
+pub finish-plain : (fwd bwd : List Raw) (s : Side) (r : Raw) → r .centre ≡ invalid → (finish fwd bwd s r .in-number ≡ invalid) × (finish fwd bwd s r .out-number ≡ invalid)
 unfolding finish open-entry
 finish-plain fwd bwd s r e = rw (eq-eqb (r .centre) invalid e, finish) (refl, refl)
 
-finish-open : (fwd bwd : List Raw) (s : Side) (r : Raw) → (r .centre ≡ invalid → ⊥) →
+pub finish-open : (fwd bwd : List Raw) (s : Side) (r : Raw) → (r .centre ≡ invalid → ⊥) →
     (finish fwd bwd s r .in-number ≡ place bwd (r .centre) (tail-of s (finish fwd bwd s r))) ×
     (finish fwd bwd s r .out-number ≡ place fwd (r .centre) (head-of s (finish fwd bwd s r)))
 unfolding finish open-entry tail-of head-of
@@ -87,7 +87,7 @@ finish-open fwd bwd forward r e = rw (ne-eqb (r .centre) invalid e, finish) (ref
 finish-open fwd bwd backward r e = rw (ne-eqb (r .centre) invalid e, finish) (refl, refl)
 
 -- the ends of an entry are those of its arc
-entry-ends : (s : Side) (v : ℕ) (x : Arc) (e : Entry) → own-end s x ≡ v → Kept (raw s v x) e → (tail-of s e ≡ x .tail) × (head-of s e ≡ x .head)
+pub entry-ends : (s : Side) (v : ℕ) (x : Arc) (e : Entry) → own-end s x ≡ v → Kept (raw s v x) e → (tail-of s e ≡ x .tail) × (head-of s e ≡ x .head)
 unfolding own-end raw neighbour-of tail-of head-of
 entry-ends forward v x e own k = (k .base ∙ sym own, k .neighbour)
 entry-ends backward v x e own k = (k .neighbour, k .base ∙ sym own)
@@ -120,7 +120,7 @@ laid-columns lent starts es k h =
     col column f e = over-length column (map f es) (omega (arith, length-map es f)) ∙ e
 
 -- an entry for each arc
-level-size : (s : Side) (l : Level) → length (level-raws s l) ≡ length (arcs-of s l)
+pub level-size : (s : Side) (l : Level) → length (level-raws s l) ≡ length (arcs-of s l)
 unfolding level-raws
 level-size s l = length-map (arcs-of s l) _
 
@@ -130,10 +130,10 @@ same-sizes s (l ∷ ls) = ap₂ (λ x xs. x ∷ xs) (level-size s l) (same-sizes
 
 module _ (c : BuildCall) (ok : AcceptedBuild c) (small : (w : ℕ) → In w (c .links .weights) → w ≤ maxLinkWeight)
     (b : Building) (done : Contracted c ok small b) where
-  abbrev links : List Link
+  abbrev pub links : List Link
   links = linkList (c .links)
 
-  abbrev L : List Level
+  abbrev pub L : List Level
   L = b .levels
 
   abbrev pub built-tables : Hierarchy
@@ -145,10 +145,10 @@ module _ (c : BuildCall) (ok : AcceptedBuild c) (small : (w : ℕ) → In w (c .
   nodes-order : map (λ l. l .node) L ≡ c .order
   nodes-order = sym (append-nil (map (λ l. l .node) L)) ∙ done .run .nodes
 
-  level-count : length L ≡ c .nodes
+  pub level-count : length L ≡ c .nodes
   level-count = sym (length-map L (λ l. l .node)) ∙ ap length nodes-order ∙ ok .order-length
 
-  level-is : (l : Level) → In l L → LevelOk (c .order) links L l
+  pub level-is : (l : Level) → In l L → LevelOk (c .order) links L l
   level-is = done .run .levels
 
   starts-is : (s : Side) (lent : List ℕ) (r : ℕ) → r ≤ c .nodes → getD (over lent (starts-of s L)) r 0 ≡ prefix (sizes (level-raws s) L) r
@@ -160,7 +160,7 @@ module _ (c : BuildCall) (ok : AcceptedBuild c) (small : (w : ℕ) → In w (c .
       sums-at arcs 0 r 0 (omega (arith, long)) ∙ zero-add (prefix arcs r) ∙ ap (λ xs. prefix xs r) (sym (same-sizes s L))
 
   -- a level, by the place of its node in the order
-  level-at : (r : ℕ) → r < c .nodes → (getD L r no-level .node ≡ getD (c .order) r 0) × In (getD L r no-level) L
+  pub level-at : (r : ℕ) → r < c .nodes → (getD L r no-level .node ≡ getD (c .order) r 0) × In (getD L r no-level) L
   level-at r h =
       let short : r < length L = omega (arith, level-count) in (
         sym (map-at (λ l. l .node) L r no-level 0 short) ∙ ap (λ xs. getD xs r 0) nodes-order,
@@ -168,18 +168,18 @@ module _ (c : BuildCall) (ok : AcceptedBuild c) (small : (w : ℕ) → In w (c .
       )
 
   -- the rank of a node is its place in the order
-  rank-is : (v : ℕ) → v < c .nodes → rank built-tables v ≡ rank-of (c .order) links v
+  pub rank-is : (v : ℕ) → v < c .nodes → rank built-tables v ≡ rank-of (c .order) links v
   unfolding rank finish-contraction
   rank-is v h = over-at (c .lent .ranks) (ranks-of (c .order) (c .nodes)) v invalid (rw (ranks-length (c .order) (c .nodes)) h) ∙ ranks-at (c .order) (c .nodes) v invalid h
 
-  rank-at : (r : ℕ) → r < c .nodes → rank-of (c .order) links (getD (c .order) r 0) ≡ r
+  pub rank-at : (r : ℕ) → r < c .nodes → rank-of (c .order) links (getD (c .order) r 0) ≡ r
   rank-at r h =
       let inside : r < length (c .order) = omega (arith, ok .order-length) in
       let first = position-first (eqb (getD (c .order) r 0)) (c .order) r 0 inside (eq-eqb (getD (c .order) r 0) _ refl) in
       differ _ r (omega arith) inside (position-is (c .order) (getD (c .order) r 0) 0 (omega arith))
 
   -- a node in the order is below the count
-  ranked-below : (v : ℕ) → rank-of (c .order) links v < length (c .order) → v < c .nodes
+  pub ranked-below : (v : ℕ) → rank-of (c .order) links v < length (c .order) → v < c .nodes
   ranked-below v h =
       ok .order-below v (Memᴰ·cast (sym (position-is (c .order) v 0 h)) (getD-in (c .order) (rank-of (c .order) links v) 0 h))
 
@@ -197,10 +197,10 @@ module _ (c : BuildCall) (ok : AcceptedBuild c) (small : (w : ℕ) → In w (c .
       sym (i .2) ∙ ap (λ r. getD L r no-level) meet ∙ j .2
 
   -- where the entries of a rank begin
-  abbrev starts-at : Side → ℕ → ℕ
+  abbrev pub starts-at : Side → ℕ → ℕ
   starts-at s r = prefix (sizes (level-raws s) L) r
 
-  begin-is : (s : Side) (r : ℕ) → r ≤ c .nodes → begin (table built-tables s) r ≡ starts-at s r
+  pub begin-is : (s : Side) (r : ℕ) → r ≤ c .nodes → begin (table built-tables s) r ≡ starts-at s r
   unfolding begin table finish-contraction laid
   begin-is forward r h = starts-is forward (c .lent .forward .starts) r h
   begin-is backward r h = starts-is backward (c .lent .backward .starts) r h
@@ -208,14 +208,14 @@ module _ (c : BuildCall) (ok : AcceptedBuild c) (small : (w : ℕ) → In w (c .
   abbrev pub entry-count : Side → ℕ
   entry-count s = length (raws s L)
 
-  used-is : (s : Side) → used (c .nodes) (table built-tables s) ≡ entry-count s
+  pub used-is : (s : Side) → used (c .nodes) (table built-tables s) ≡ entry-count s
   unfolding used raws
   used-is s =
       begin-is s (c .nodes) (omega arith) ∙ ap (λ n. prefix (sizes (level-raws s) L) n) (sym level-count) ∙
       sym (flat-length (level-raws s) L)
 
   -- the entries as rule 5 leaves them
-  entry-is : (s : Side) (e : ℕ) → e < entry-count s → entry (table built-tables s) e ≡ finish (raws forward L) (raws backward L) s (getD (raws s L) e no-raw)
+  pub entry-is : (s : Side) (e : ℕ) → e < entry-count s → entry (table built-tables s) e ≡ finish (raws forward L) (raws backward L) s (getD (raws s L) e no-raw)
   unfolding table finish-contraction finished
   entry-is forward e h =
       laid-entry (c .lent .forward) (starts-of forward L) (finished forward L) e no-entry (rw (length-map (raws forward L) _) h) ∙
@@ -225,14 +225,14 @@ module _ (c : BuildCall) (ok : AcceptedBuild c) (small : (w : ℕ) → In w (c .
       map-at _ (raws backward L) e no-raw no-entry h
 
   -- the next rank's start
-  starts-next : (s : Side) (r : ℕ) → r < c .nodes → starts-at s (suc r) ≡ starts-at s r + length (arcs-of s (getD L r no-level))
+  pub starts-next : (s : Side) (r : ℕ) → r < c .nodes → starts-at s (suc r) ≡ starts-at s r + length (arcs-of s (getD L r no-level))
   starts-next s r h =
       let inside : r < length L = omega (arith, level-count) in
       prefix-next (sizes (level-raws s) L) r 0 (rw (length-map L (λ l. length (level-raws s l))) inside) ∙
       ap (λ n. starts-at s r + n) (map-at (λ l. length (level-raws s l)) L r no-level 0 inside ∙ level-size s (getD L r no-level))
 
   -- An entry of rank r is an arc of that level.
-  raw-at : (s : Side) (r i : ℕ) → r < c .nodes → i < length (arcs-of s (getD L r no-level)) →
+  pub raw-at : (s : Side) (r i : ℕ) → r < c .nodes → i < length (arcs-of s (getD L r no-level)) →
       getD (raws s L) (starts-at s r + i) no-raw ≡ raw s (getD L r no-level .node) (getD (arcs-of s (getD L r no-level)) i no-arc)
   unfolding raws level-raws
   raw-at s r i h k =
@@ -274,17 +274,17 @@ module _ (c : BuildCall) (ok : AcceptedBuild c) (small : (w : ℕ) → In w (c .
             (eqb-true _ _ (passes .1)),
       )
 
-  abbrev n : ℕ
+  abbrev pub n : ℕ
   n = c .nodes
 
-  abbrev h : Hierarchy
+  abbrev pub h : Hierarchy
   h = built-tables
 
-  abbrev opened : Side → Raw → Entry
+  abbrev pub opened : Side → Raw → Entry
   opened s r = finish (raws forward L) (raws backward L) s r
 
   -- the entry of an arc that a level holds
-  found-entry : (s : Side) (l : Level) → In l L → (y : Arc) → In y (arcs-of s l) →
+  pub found-entry : (s : Side) (l : Level) → In l L → (y : Arc) → In y (arcs-of s l) →
       (place (raws s L) (l .node) (neighbour-of s y) < used n (table h s)) ×
       Kept (raw s (l .node) y) (entry (table h s) (place (raws s L) (l .node) (neighbour-of s y)))
   found-entry s l ml y my =
@@ -293,11 +293,11 @@ module _ (c : BuildCall) (ok : AcceptedBuild c) (small : (w : ℕ) → In w (c .
         rw (entry-is s _ (f .0), f .1) (finish-keeps (raws forward L) (raws backward L) s (raw s (l .node) y)),
       )
 
-  node-below : (l : Level) → In l L → l .node < n
+  pub node-below : (l : Level) → In l L → l .node < n
   node-below l ml = ranked-below (l .node) (level-is l ml .node-in)
 
   -- an arc with a centre opens into two entries of its centre's level
-  opens : (s : Side) (l : Level) → In l L → (x : Arc) → In x (arcs-of s l) →
+  pub opens : (s : Side) (l : Level) → In l L → (x : Arc) → In x (arcs-of s l) →
       Opened (c .order) links L (rank-of (c .order) links (l .node)) x → Opens n h s (opened s (raw s (l .node) x))
   unfolding raw neighbour-of table arcs-of
   opens s l ml x mx o =
@@ -366,7 +366,7 @@ module _ (c : BuildCall) (ok : AcceptedBuild c) (small : (w : ℕ) → In w (c .
     pub arc-in : In arc (arcs-of s level)
     pub is : entry (table h s) e ≡ opened s (raw s (level .node) arc)
 
-  before-end : (s : Side) (r : ℕ) {e : ℕ} → r ≤ n → e < starts-at s r → e < entry-count s
+  pub before-end : (s : Side) (r : ℕ) {e : ℕ} → r ≤ n → e < starts-at s r → e < entry-count s
   unfolding raws
   before-end s r hr h =
       let xs = sizes (level-raws s) L in
@@ -378,7 +378,7 @@ module _ (c : BuildCall) (ok : AcceptedBuild c) (small : (w : ℕ) → In w (c .
         flat-length (level-raws s) L,
       )
 
-  within-rank : (s : Side) (r e : ℕ) → r < n → starts-at s r ≤ e → e < starts-at s (suc r) → At s r e
+  pub within-rank : (s : Side) (r e : ℕ) → r < n → starts-at s r ≤ e → e < starts-at s (suc r) → At s r e
   within-rank s r e hr low high =
       let l = getD L r no-level in
       let at = level-at r hr in

@@ -12,3 +12,4 @@ pub mod Pigeonhole
 pub mod Starts
 pub mod Prefixes
 pub mod BuiltTables
+pub mod BuildHalf

@@ -78,7 +78,7 @@ at-most (suc k) xs e h =
           omega (arith, h x (i .0), eqb-false k x (not-true (eqb k x) (i .1)))),
     )
 
-distinct-more : (u : ℕ) (xs : List ℕ) → any (eqb u) xs ≡ false → distinct xs ≡ true → distinct (u ∷ xs) ≡ true
+pub distinct-more : (u : ℕ) (xs : List ℕ) → any (eqb u) xs ≡ false → distinct xs ≡ true → distinct (u ∷ xs) ≡ true
 unfolding distinct
 distinct-more u xs t e = rw t e
 

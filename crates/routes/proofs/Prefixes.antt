@@ -4,7 +4,7 @@ use mathlib.Core.Logic.{_⊎_, inl, inr}
 use mathlib.Core.List.{List, [], _∷_, _++_, map, List·Memᴰ·head, List·Memᴰ·tail, List·Memᴰ·cases-cons, List·Memᴰ·not-nil, Memᴰ·append-left, Memᴰ·append-right, List·Memᴰ·append-cases}
 use Prim.Native.Nat.{ℕ, zero, suc, _+_, _-_, _*_, _≤_, _<_, zero-le}
 use native.Mathlib.Omega.{arith}
-use native.Mathlib.Decide.{ℕ-discrete}
+use native.Mathlib.Decide.{ℕ-discrete, decLt}
 use native.Mathlib.Nat.{zero-add, add-assoc, mul-suc}
 use lib.ListN.{length, getD, drop, length-append, length-drop, length-map, List·getD-append}
 use lib.Seq.{getD-append-add}
@@ -29,6 +29,18 @@ unfolding prefix
 prefix-most xs zero h = zero-le
 prefix-most [] (suc r) h = absurd (omega arith)
 prefix-most (x ∷ xs) (suc r) h = omega (arith, prefix-most xs r (omega arith))
+
+-- the list that a place lies in
+pub locate : (xs : List ℕ) (e : ℕ) → e < prefix xs (length xs) → (r : ℕ) × (r < length xs) × (prefix xs r ≤ e) × (e < prefix xs (suc r))
+unfolding prefix
+locate [] e h = absurd (omega arith)
+locate (x ∷ xs) e h =
+    elim (decLt e x) [
+      | yes here ↦ (0, omega arith, zero-le, omega arith)
+      | no later ↦
+          let r = locate xs (e - x) (omega arith) in
+          (suc (r .0), omega (arith, r .1), omega (arith, r .2), omega (arith, r .3))
+    ]
 
 pub sums-at : (xs : List ℕ) (a r d : ℕ) → r ≤ length xs → getD (running-sums a xs) r d ≡ a + prefix xs r
 unfolding running-sums prefix
