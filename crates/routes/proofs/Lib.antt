@@ -13,3 +13,4 @@ pub mod Starts
 pub mod Prefixes
 pub mod BuiltTables
 pub mod BuildHalf
+pub mod Refused
