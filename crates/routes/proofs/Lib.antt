@@ -14,3 +14,4 @@ pub mod Prefixes
 pub mod BuiltTables
 pub mod BuildHalf
 pub mod Refused
+pub mod SearchBounds

@@ -6,7 +6,7 @@ use mathlib.Core.Bool.{true}
 use mathlib.Core.List.{List, [], _∷_}
 use Prim.Native.Nat.{ℕ, _+_, _≤_}
 use lib.ListN.{length}
-use Rattle.rules.specs.Numbers.{noWeight}
+use Rattle.rules.specs.Numbers.{noWeight, maxLinkWeight}
 use Rattle.rules.specs.Lists.{distinct, over}
 use Rattle.rules.specs.Columns.{Link, linkList, Ends}
 use Rattle.rules.specs.Refusals.{BuildCall, QueryCall, query-refusal}
@@ -67,8 +67,10 @@ pub record AnsweredWalk (ls : List Link) (q : QueryCall) : Type 0 where
 abbrev pub Answered : List Link → QueryCall → Type 0
 Answered ls q = AnsweredNone ls q ⊎ AnsweredWalk ls q
 
--- An accepted query on the tables of a build that was not refused.
+-- An accepted query on the tables of a build that was not refused. A link's weight is a number of 32 bits, as its
+-- column has it.
 pub record OnBuilt (c : BuildCall) (q : QueryCall) : Type 0 where
+  pub weights : (w : ℕ) → In w (c .links .weights) → w ≤ maxLinkWeight
   pub built : build c .number ≡ 0
   pub nodes : q .nodes ≡ c .nodes
   pub tables : q .hierarchy ≡ build c .hierarchy
