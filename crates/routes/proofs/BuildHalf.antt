@@ -17,7 +17,6 @@ use Rattle.rules.specs.Refusals.{BuildCall, build-refusal}
 use Rattle.rules.specs.Graph.{Arc, joins}
 use Rattle.rules.specs.Build.{Step, went, refused, Level, arcs-of, neighbour-of, raw, level-raws, raws, Building, place, finish, finish-contraction, contraction, built, unless-refused, build}
 use Rattle.rules.specs.Unpack.{is-shortcut}
-use Rattle.rules.proofs.Decides.{both-and}
 use Rattle.routes.specs.Paths.{In, Edges, Path, stay, step}
 use Rattle.routes.specs.Demand.{Linked}
 use Rattle.routes.specs.Promise.{Entries, UpDown, Promise}
@@ -27,30 +26,16 @@ use Rattle.routes.proofs.Positions.{getD-in, in-getD}
 use Rattle.routes.proofs.Levels.{Apart, rank-of, ArcOk, LevelOk, own-end}
 use Rattle.routes.proofs.Runs.{LevelEdges, LevelUpDown}
 use Rattle.routes.proofs.Accepted.{AcceptedBuild, accepted-build}
-use Rattle.routes.proofs.Pigeonhole.{at-most, any-in, distinct-more}
+use Rattle.routes.proofs.Pigeonhole.{at-most}
+use Rattle.routes.proofs.Room.{codes-distinct}
 use Rattle.routes.proofs.Starts.{Contracted, contraction-went, in-map}
 use Rattle.routes.proofs.Prefixes.{prefix, sizes, locate, flat-length, flat-at-most, range-in}
 use Rattle.routes.proofs.BuiltTables.{ends-by-side, level-size, tables-rule, L, n, h, links, opened, At, within-rank, before-end, used-is, level-is, level-count, ranked-below, node-below, finish-keeps, opens, entry-ends, found-entry, starts-at, begin-is, rank-is, entry-is, raw-at, starts-next}
 
-same-ends-join : (x y : Arc) → x .tail ≡ y .tail → x .head ≡ y .head → joins x y ≡ true
-unfolding joins
-same-ends-join x y p q = both-and _ _ (eq-eqb (y .tail) (x .tail) (sym p)) (eq-eqb (y .head) (x .head) (sym q))
-
 -- arcs of one end in common have no neighbour twice
 pub neighbours-distinct : (s : Side) (v : ℕ) (xs : List Arc) → Apart xs → ((x : Arc) → In x xs → own-end s x ≡ v) → distinct (map (neighbour-of s) xs) ≡ true
-unfolding distinct
-neighbours-distinct s v [] a own = refl
-neighbours-distinct s v (x ∷ xs) a own =
-    distinct-more (neighbour-of s x) (map (neighbour-of s) xs)
-    (on-test (any (eqb (neighbour-of s x)) (map (neighbour-of s) xs))
-    (λ t.
-    let m = in-map (neighbour-of s) _ xs (any-in (neighbour-of s x) (map (neighbour-of s) xs) t) in
-    absurd (clash s x (m .0) (own x (List·Memᴰ·head refl) ∙ sym (own (m .0) (List·Memᴰ·tail (m .1)))) (m .2) (a .0 (m .0) (m .1))))
-    (λ t. t))
-    (neighbours-distinct s v xs (a .1) (λ y m. own y (List·Memᴰ·tail m)))
-  where
-    clash : (s : Side) (x y : Arc) → own-end s x ≡ own-end s y → neighbour-of s x ≡ neighbour-of s y → joins x y ≡ false → ⊥
-    clash s x y p q e = let d = ends-by-side s x y p q in false≢true (sym e ∙ same-ends-join x y (d .0) (d .1))
+neighbours-distinct s v xs a own =
+    codes-distinct (neighbour-of s) xs a (λ x y mx my same. ends-by-side s x y (own x mx ∙ sym (own y my)) same)
 
 -- an entry with a number is a shortcut
 numbered : (e : Entry) → (e .in-number ≡ invalid → ⊥) → is-shortcut e ≡ true

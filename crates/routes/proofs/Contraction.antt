@@ -84,7 +84,7 @@ module _ (pool limit v : ℕ) where
         (a b : Arc) (g : List Arc) → In a xs → In b bs → (a .tail ≡ b .head → ⊥) → a .weight + b .weight ≤ maxWeight →
         length (addOrReduce (shortcut pool limit v a b) g) ≤ pool → P g → P (addOrReduce (shortcut pool limit v a b) g)
 
-    pair-keeps : (a b : Arc) (c k : Contracting) → Adds (a ∷ []) (b ∷ []) → pair pool limit v a b c ≡ went k → P (c .graph) → P (k .graph)
+    pub pair-keeps : (a b : Arc) (c k : Contracting) → Adds (a ∷ []) (b ∷ []) → pair pool limit v a b c ≡ went k → P (c .graph) → P (k .graph)
     pair-keeps a b c k adds e x =
         elim (pair-went a b c k e) [
           | inl dropped ↦ rw (dropped .1) x
@@ -99,7 +99,7 @@ module _ (pool limit v : ℕ) where
               ]
         ]
 
-    pairs-of-keeps : (a : Arc) (bs : List Arc) (c k : Contracting) → Adds (a ∷ []) bs → pairs-of pool limit v a bs c ≡ went k → P (c .graph) → P (k .graph)
+    pub pairs-of-keeps : (a : Arc) (bs : List Arc) (c k : Contracting) → Adds (a ∷ []) bs → pairs-of pool limit v a bs c ≡ went k → P (c .graph) → P (k .graph)
     unfolding pairs-of
     pairs-of-keeps a [] c k adds e x = rw (← (went-same e)) x
     pairs-of-keeps a (b ∷ bs) c k adds e x =

@@ -209,11 +209,11 @@ module _ (order : List ℕ) (ls : List Link) where
 
   -- Contracting the node v of rank r, whose level is written.
   module _ (pool limit v r : ℕ) (at : rank-of v ≡ r) (levels : List Level) (g : List Arc) (ok : GraphOk levels r r g) where
-    before : GraphOk (with-level levels v g) r (suc r) g
+    pub before : GraphOk (with-level levels v g) r (suc r) g
     before = graph-more (λ l m. Memᴰ·append-left (level-of v g ∷ []) m) (omega arith) r g ok
 
     -- a shortcut keeps it
-    adds : (a b : Arc) (k : List Arc) → In a (ins g v) → In b (outs g v) → (a .tail ≡ b .head → ⊥) →
+    pub adds : (a b : Arc) (k : List Arc) → In a (ins g v) → In b (outs g v) → (a .tail ≡ b .head → ⊥) →
         a .weight + b .weight ≤ maxWeight → GraphOk (with-level levels v g) r (suc r) k →
         GraphOk (with-level levels v g) r (suc r) (addOrReduce (shortcut pool limit v a b) k)
     unfolding shortcut

@@ -12,6 +12,8 @@ pub mod Pigeonhole
 pub mod Starts
 pub mod Prefixes
 pub mod BuiltTables
+pub mod Room
 pub mod BuildHalf
 pub mod Refused
+pub mod Enough
 pub mod SearchBounds

@@ -86,7 +86,7 @@ module _ (c : BuildCall) (ls : List Link) (d : ℕ) (differ : Differ (c .order) 
     pub graph : GraphOk (c .order) ls (b .levels) (length (b .levels)) (length (b .levels)) (b .graph)
 
   module _ (v : ℕ) (vs : List ℕ) (b : Building) (ok : RunOk (v ∷ vs) b) where
-    next-inside : length (b .levels) < length (c .order)
+    pub next-inside : length (b .levels) < length (c .order)
     next-inside = omega (arith, simp (length-append, length-map) at (ap length (ok .nodes)))
 
     next-here : getD (c .order) (length (b .levels)) d ≡ v
@@ -94,7 +94,7 @@ module _ (c : BuildCall) (ls : List Link) (d : ℕ) (differ : Differ (c .order) 
         rw (← (ok .nodes), ← (length-map (b .levels) (λ l. l .node)))
         (getD-append-seam (map (λ l. l .node) (b .levels)) v vs d)
 
-    next-rank : rank-of (c .order) ls v ≡ length (b .levels)
+    pub next-rank : rank-of (c .order) ls v ≡ length (b .levels)
     next-rank = rw next-here at (rank-at (length (b .levels)) next-inside)
 
     pub step-ok : (k : Building) → Stepped c v b k → RunOk vs k

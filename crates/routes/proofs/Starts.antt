@@ -87,7 +87,7 @@ module _ (c : BuildCall) (ok : AcceptedBuild c) (small : (w : ℕ) → In w (c .
       (every-below (c .nodes) (c .order) (ok .order-distinct) (ok .order-below) (ok .order-length) u below)
       (eq-eqb u u refl)
 
-  links-ok : GraphOk (c .order) links [] 0 0 (map link-arc links)
+  pub links-ok : GraphOk (c .order) links [] 0 0 (map link-arc links)
   unfolding link-arc linkList
   links-ok =
       record {
@@ -111,8 +111,11 @@ module _ (c : BuildCall) (ok : AcceptedBuild c) (small : (w : ℕ) → In w (c .
   unfolding link-arc
   links-arcs u v w m = (w, (invalid, map-in link-arc _ links m), omega arith)
 
-  first-building : Building
+  abbrev pub first-building : Building
   first-building = record { graph = map link-arc links; levels = [] }
+
+  pub first-run : RunOk c links 0 (distinct-decides (c .order) 0 .0 (ok .order-distinct)) (c .order) first-building
+  first-run = record { nodes = refl; levels = λ l m. absurd (List·Memᴰ·not-nil m); graph = links-ok }
 
   -- What a contraction that went leaves: levels, and every path over links up and down by them.
   pub record Contracted (b : Building) : Type 0 where
@@ -121,7 +124,7 @@ module _ (c : BuildCall) (ok : AcceptedBuild c) (small : (w : ℕ) → In w (c .
     pub goes : (a e w : ℕ) → a < c .nodes → e < c .nodes → Path (Linked links) e a w → LevelUpDown (b .levels) a e w
 
   pub contraction-went : (b : Building) → contraction c ≡ went b → Contracted b
-  unfolding contraction from-links first-building raws flat-map
+  unfolding contraction from-links raws flat-map
   contraction-went b e =
       let s = both-went (from-links (c .pool) links) _ b e in
       let held = pool-held (c .pool) (map link-arc links) (s .0) (s .1) in
@@ -129,7 +132,7 @@ module _ (c : BuildCall) (ok : AcceptedBuild c) (small : (w : ℕ) → In w (c .
       let differ = distinct-decides (c .order) 0 .0 (ok .order-distinct) in
       let u =
       up-down c links 0 differ (c .order) first-building b steps
-      (record { nodes = refl; levels = λ l m. absurd (List·Memᴰ·not-nil m); graph = links-ok })
+      first-run
       in
       record {
         run = u .1;
