@@ -140,6 +140,7 @@ module _ (c : BuildCall) (ok : AcceptedBuild c) (small : (w : ℕ) → In w (c .
   promise =
       record {
         rules = tables-rule c ok small b done;
+        few = λ s. omega (arith, used-is c ok small b done s, entries-few s);
         plain-is-link = plain-is-link;
         up-down =
             λ a e w ha he p.

@@ -17,3 +17,16 @@ pub mod BuildHalf
 pub mod Refused
 pub mod Enough
 pub mod SearchBounds
+pub mod QueryLists
+pub mod QueryTables
+pub mod QueryWalks
+pub mod QueryOffers
+pub mod QueryState
+pub mod QueryTaken
+pub mod QueryTurns
+pub mod QueryAccepted
+pub mod QueryLaws
+pub mod QueryChains
+pub mod QueryLeast
+pub mod QueryHalf
+pub mod ThirdDemand

@@ -3,6 +3,7 @@ use mathlib.Core.Path.{_≡_}
 use mathlib.Core.Bool.{false}
 use mathlib.Core.List.{List}
 use Prim.Native.Nat.{ℕ, _+_, _≤_, _<_}
+use Rattle.rules.specs.Numbers.{invalid}
 use Rattle.rules.specs.Columns.{Link, Hierarchy, Side, forward, backward, table, entry, rank, places}
 use Rattle.rules.specs.TableRules.{tail-of, head-of, used, TableRules}
 use Rattle.rules.specs.Unpack.{is-shortcut}
@@ -22,6 +23,8 @@ UpDown h a b w =
 
 pub record Promise (n : ℕ) (ls : List Link) (h : Hierarchy) : Type 0 where
   pub rules : TableRules n h
+  -- no entry has the number that is the mark
+  pub few : (s : Side) → used n (table h s) ≤ invalid
   pub plain-is-link : (s : Side) (e : ℕ) → e < used n (table h s) → is-shortcut (entry (table h s) e) ≡ false →
       Linked ls (tail-of s (entry (table h s) e)) (head-of s (entry (table h s) e)) (entry (table h s) e .weight)
   pub up-down : (a b w : ℕ) → a < n → b < n → Path (Linked ls) b a w → UpDown h a b w

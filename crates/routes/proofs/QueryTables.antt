@@ -1,0 +1,140 @@
+-- What the table rules say of a used entry and of the entries of a node; and that unpacking's fuel is enough.
+use mathlib.Core.Path.{_≡_, sym, _∙_, ap, ap₂}
+use mathlib.Core.Logic.{inl, inr}
+use mathlib.Core.Bool.{true, false, true≢false}
+use mathlib.Core.List.{[], _∷_, _++_}
+use Prim.Native.Nat.{ℕ, zero, suc, _-_, _≤_, _<_}
+use native.Mathlib.Omega.{arith}
+use native.Mathlib.Decide.{decLt, ℕ-discrete}
+use lib.Dec.{eqb}
+use borrow.Author.Tests.{eq-eqb}
+use lib.ListN.{length}
+use Rattle.rules.specs.Numbers.{invalid}
+use Rattle.rules.specs.Columns.{Table, Entry, Hierarchy, Side, forward, backward, table, entry, rank, begin, places}
+use Rattle.rules.specs.TableRules.{tail-of, used, Opens, EntryRules, SideRules, TableRules}
+use Rattle.rules.specs.Unpack.{is-shortcut, unpack, unpacked}
+use Rattle.rules.proofs.Decides.{both-and}
+use Rattle.routes.proofs.Cases.{on-test}
+use Rattle.routes.proofs.QueryLists.{in-range, range-in, range-length}
+use Rattle.routes.specs.Paths.{In}
+
+-- of the numbers below the last of rising starts, each lies between two of them
+stands-between : (f : ℕ → ℕ) (n : ℕ) → f 0 ≡ 0 → (e : ℕ) → e < f n → (r : ℕ) × (r < n) × (f r ≤ e) × (e < f (suc r))
+stands-between f zero first e below = absurd (omega arith)
+stands-between f (suc n) first e below =
+    elim (decLt e (f n)) [
+      | yes early ↦ let r = stands-between f n first e early in (r .0, omega (arith, r .1), r .2, r .3)
+      | no late ↦ (n, omega arith, omega arith, below)
+    ]
+
+pub rising : (f : ℕ → ℕ) (n : ℕ) → ((r : ℕ) → r < n → f r ≤ f (suc r)) → (a : ℕ) → a ≤ n → f a ≤ f n
+rising f zero up a le = let same : a ≡ 0 = omega arith in rw same (omega arith)
+rising f (suc n) up a le =
+    elim (ℕ-discrete a (suc n)) [
+      | yes same ↦ rw same (omega arith)
+      | no other ↦ omega (arith, rising f n (λ r below. up r (omega arith)) a (omega arith), up n (omega arith))
+    ]
+
+module _ (n : ℕ) (h : Hierarchy) (rules : TableRules n h) (s : Side) where
+  side-of-rules : SideRules n h s
+  side-of-rules = rules .side-rules s
+
+  pub used-entry : (e : ℕ) → e < used n (table h s) → EntryRules n h s (rank h (entry (table h s) e .base)) (entry (table h s) e)
+  unfolding used
+  used-entry e below =
+      let r = stands-between (begin (table h s)) n (side-of-rules .begin-at-0) e below in
+      let x = side-of-rules .entry-rules (r .0) (r .1) e (r .2) (r .3) in
+      rw (x .base-rank) x
+
+  pub place-entry : (v : ℕ) → v < n → (e : ℕ) → In e (places (table h s) (rank h v)) → EntryRules n h s (rank h v) (entry (table h s) e)
+  unfolding places
+  place-entry v below e m =
+      let r = range-in (begin (table h s) (rank h v)) (begin (table h s) (suc (rank h v))) e m in
+      side-of-rules .entry-rules (rank h v) (rules .ranks-below v below) e (r .0) (r .1)
+
+  pub place-base : (v : ℕ) → v < n → (e : ℕ) → In e (places (table h s) (rank h v)) → entry (table h s) e .base ≡ v
+  place-base v below e m =
+      let x = place-entry v below e m in
+      rules .ranks-differ (entry (table h s) e .base) v (x .base-below) below (x .base-rank)
+
+  pub places-within : (v : ℕ) → v < n →
+      (begin (table h s) (rank h v) ≤ begin (table h s) (suc (rank h v))) × (begin (table h s) (suc (rank h v)) ≤ used n (table h s))
+  unfolding used
+  places-within v below = (
+    side-of-rules .never-fall (rank h v) (rules .ranks-below v below),
+    rising (begin (table h s)) n (side-of-rules .never-fall) (suc (rank h v)) (rules .ranks-below v below),
+  )
+
+  pub place-used : (v : ℕ) → v < n → (e : ℕ) → In e (places (table h s) (rank h v)) → e < used n (table h s)
+  unfolding places
+  place-used v below e m =
+      let r = range-in (begin (table h s) (rank h v)) (begin (table h s) (suc (rank h v))) e m in
+      omega (arith, r .1, places-within v below .1)
+
+pub in-places : (t : Table) (r e : ℕ) → begin t r ≤ e → e < begin t (suc r) → In e (places t r)
+unfolding places
+in-places t r e low high = in-range (begin t r) (begin t (suc r)) e low high
+
+pub places-length : (t : Table) (r : ℕ) → length (places t r) ≡ begin t (suc r) - begin t r
+unfolding places
+places-length t r = range-length (begin t r) (begin t (suc r))
+
+-- an entry that is a shortcut opens as its rules say
+pub shortcut-opens : (n : ℕ) (h : Hierarchy) (s : Side) (r : ℕ) (e : Entry) → EntryRules n h s r e → is-shortcut e ≡ true → Opens n h s e
+unfolding is-shortcut
+shortcut-opens n h s r e x t =
+    elim (x .numbers) [
+      | inl both ↦
+          absurd
+          (true≢false
+          (sym t ∙ rw (both-and (eqb (e .in-number) invalid) (eqb (e .out-number) invalid) (eq-eqb (e .in-number) invalid (both .0)) (eq-eqb (e .out-number) invalid (both .1)), is-shortcut)))
+      | inr opens ↦ opens
+    ]
+
+module _ (h : Hierarchy) where
+  pub unpack-shortcut : (fuel : ℕ) (s : Side) (e : ℕ) → is-shortcut (entry (table h s) e) ≡ true →
+      unpack h (suc fuel) s e ≡ unpack h fuel backward (entry (table h s) e .in-number) ++ unpack h fuel forward (entry (table h s) e .out-number)
+  unfolding unpack
+  unpack-shortcut fuel s e t = rw (t, unpack)
+
+  pub unpack-plain : (fuel : ℕ) (s : Side) (e : ℕ) → is-shortcut (entry (table h s) e) ≡ false →
+      unpack h (suc fuel) s e ≡ tail-of s (entry (table h s) e) ∷ []
+  unfolding unpack
+  unpack-plain fuel s e f = rw (f, unpack)
+
+module _ (n : ℕ) (h : Hierarchy) (rules : TableRules n h) where
+  -- (e) Fuel above the rank of the base is as good as any other.
+  pub unpack-enough : (f g : ℕ) (s : Side) (e : ℕ) → e < used n (table h s) → rank h (entry (table h s) e .base) < f →
+      rank h (entry (table h s) e .base) < g → unpack h f s e ≡ unpack h g s e
+  unfolding table
+  unpack-enough zero g s e below hf hg = absurd (omega arith)
+  unpack-enough (suc f) zero s e below hf hg = absurd (omega arith)
+  unpack-enough (suc f) (suc g) s e below hf hg =
+      on-test (is-shortcut (entry (table h s) e))
+      (λ t.
+      let o = shortcut-opens n h s _ (entry (table h s) e) (used-entry n h rules s e below) t in
+      let low = o .lower in
+      let same = ap (rank h) (o .one-node) in
+      unpack-shortcut h f s e t ∙
+      ap₂ (λ xs ys. xs ++ ys)
+      (unpack-enough f g backward (entry (table h s) e .in-number) (o .in-used) (omega (arith, low)) (omega (arith, low)))
+      (unpack-enough f g forward (entry (table h s) e .out-number) (o .out-used) (omega (arith, low, same)) (omega (arith, low, same))) ∙
+      sym (unpack-shortcut h g s e t))
+      (λ t. unpack-plain h f s e t ∙ sym (unpack-plain h g s e t))
+
+  -- (e) what an entry opens into, without fuel
+  pub unpacked-shortcut : (s : Side) (e : ℕ) → e < used n (table h s) → is-shortcut (entry (table h s) e) ≡ true →
+      unpacked h s e ≡ unpacked h backward (entry (table h s) e .in-number) ++ unpacked h forward (entry (table h s) e .out-number)
+  unfolding unpacked table
+  unpacked-shortcut s e below t =
+      let o = shortcut-opens n h s _ (entry (table h s) e) (used-entry n h rules s e below) t in
+      let low = o .lower in
+      let same = ap (rank h) (o .one-node) in
+      unpack-shortcut h _ s e t ∙
+      ap₂ (λ xs ys. xs ++ ys)
+      (unpack-enough _ _ backward (entry (table h s) e .in-number) (o .in-used) (omega (arith, low)) (omega arith))
+      (unpack-enough _ _ forward (entry (table h s) e .out-number) (o .out-used) (omega (arith, low, same)) (omega arith))
+
+  pub unpacked-plain : (s : Side) (e : ℕ) → is-shortcut (entry (table h s) e) ≡ false → unpacked h s e ≡ tail-of s (entry (table h s) e) ∷ []
+  unfolding unpacked
+  unpacked-plain s e f = unpack-plain h _ s e f
