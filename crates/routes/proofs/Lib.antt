@@ -16,6 +16,7 @@ pub mod Room
 pub mod BuildHalf
 pub mod Refused
 pub mod Enough
+pub mod BuildLaws
 pub mod SearchBounds
 pub mod QueryLists
 pub mod QueryTables
