@@ -9,48 +9,19 @@ use lib.Dec.{eqb, ltb, leb}
 use lib.ListN.{length, getD}
 use borrow.Author.Tests.{eqb-true, eqb-false, eq-eqb, ne-eqb, ltb-true, ltb-false, leb-true, not-true}
 use Rattle.rules.specs.Numbers.{maxNodes, maxLinks}
-use Rattle.rules.specs.Lists.{all, any, distinct}
+use Rattle.rules.specs.Lists.{In, all, any, distinct}
 use Rattle.rules.specs.Columns.{Links, Link, linkList, Table, Hierarchy, equally-long, EquallyLong}
 use Rattle.rules.specs.Refusals.{Row, row, first-met, BuildCall, names-none-above, loop, goes-before, ascending, columns-fit, table-short, lent-short, graph-rows, order-rows, build-refusal}
 use Rattle.rules.proofs.Decides.{and-both, or-either, left-or, right-or}
 use Rattle.rules.proofs.TablesDecided.{columns-decided}
-use Rattle.routes.specs.Paths.{In}
-use Rattle.routes.proofs.Cases.{on-test}
+use Rattle.rules.proofs.Cases.{on-test, not-not, neither}
+use Rattle.rules.proofs.Members.{all-each, none-any}
 
 -- the first row was not met, nor any other
 pub not-met : (n : ℕ) (b : Bool) (rs : List Row) → first-met (row (suc n) b ∷ rs) ≡ 0 → (b ≡ false) × (first-met rs ≡ 0)
 unfolding first-met
 not-met n true rs e = absurd (omega (arith, e))
 not-met n false rs e = (refl, e)
-
-pub not-not : (b : Bool) → not b ≡ false → b ≡ true
-not-not true e = refl
-not-not false e = absurd (true≢false e)
-
-pub neither : (a b : Bool) → (a || b) ≡ false → (a ≡ false) × (b ≡ false)
-neither true b e = absurd (true≢false e)
-neither false b e = (refl, e)
-
-module _ {A : Type 0} (p : A → Bool) where
-  pub all-each : (xs : List A) → all p xs ≡ true → (x : A) → In x xs → p x ≡ true
-  unfolding all
-  all-each [] e x m = absurd (List·Memᴰ·not-nil m)
-  all-each (y ∷ ys) e x m =
-      let b = and-both (p y) (all p ys) e in
-      elim (List·Memᴰ·cases-cons m) [
-        | inl here ↦ ap p here ∙ b .0
-        | inr later ↦ all-each ys (b .1) x later
-      ]
-
-  pub none-any : (xs : List A) → any p xs ≡ false → (x : A) → In x xs → p x ≡ false
-  unfolding any
-  none-any [] e x m = absurd (List·Memᴰ·not-nil m)
-  none-any (y ∷ ys) e x m =
-      let b = neither (p y) (any p ys) e in
-      elim (List·Memᴰ·cases-cons m) [
-        | inl here ↦ ap p here ∙ b .0
-        | inr later ↦ none-any ys (b .1) x later
-      ]
 
 -- Links go before one another by (tail, head).
 abbrev pub Before : Link → Link → Type 0

@@ -10,26 +10,26 @@ use lib.Dec.{eqb}
 use lib.ListN.{length, getD, length-map}
 use borrow.Author.Tests.{eqb-true, eqb-false, eq-eqb, ne-eqb}
 use Rattle.rules.specs.Numbers.{maxNodes, maxLinkWeight, invalid}
-use Rattle.rules.specs.Lists.{any, distinct, flat-map}
+use Rattle.rules.specs.Lists.{In, any, distinct, flat-map}
 use Rattle.rules.specs.Columns.{Links, Link, linkList, Entry, Hierarchy, Side, forward, backward, table, entry, rank, begin, places}
 use Rattle.rules.specs.TableRules.{tail-of, head-of, used, TableRules}
 use Rattle.rules.specs.Refusals.{BuildCall, build-refusal}
 use Rattle.rules.specs.Graph.{Arc, joins}
 use Rattle.rules.specs.Build.{Step, went, refused, Level, arcs-of, neighbour-of, raw, level-raws, raws, Building, place, finish, finish-contraction, contraction, built, unless-refused, build}
 use Rattle.rules.specs.Unpack.{is-shortcut}
-use Rattle.routes.specs.Paths.{In, Edges, Path, stay, step}
+use Rattle.rules.proofs.Cases.{on-test}
+use Rattle.rules.proofs.Members.{getD-in, in-getD, in-map}
+use Rattle.rules.proofs.Pigeonhole.{at-most}
+use Rattle.rules.proofs.Prefixes.{prefix, sizes, locate, flat-length, flat-at-most, range-in}
+use Rattle.routes.specs.Paths.{Edges, Path, stay, step}
 use Rattle.routes.specs.Demand.{Linked}
 use Rattle.routes.specs.Promise.{Entries, UpDown, Promise}
-use Rattle.routes.proofs.Cases.{on-test}
 use Rattle.routes.proofs.Paths.{Lighter, lighter-path}
-use Rattle.routes.proofs.Positions.{getD-in, in-getD}
 use Rattle.routes.proofs.Levels.{Apart, rank-of, ArcOk, LevelOk, own-end}
 use Rattle.routes.proofs.Runs.{LevelEdges, LevelUpDown}
 use Rattle.routes.proofs.Accepted.{AcceptedBuild, accepted-build}
-use Rattle.routes.proofs.Pigeonhole.{at-most}
 use Rattle.routes.proofs.Room.{codes-distinct}
-use Rattle.routes.proofs.Starts.{Contracted, contraction-went, in-map}
-use Rattle.routes.proofs.Prefixes.{prefix, sizes, locate, flat-length, flat-at-most, range-in}
+use Rattle.routes.proofs.Starts.{Contracted, contraction-went}
 use Rattle.routes.proofs.BuiltTables.{ends-by-side, level-size, tables-rule, L, n, h, links, opened, At, within-rank, before-end, used-is, level-is, level-count, ranked-below, node-below, finish-keeps, opens, entry-ends, found-entry, starts-at, begin-is, rank-is, entry-is, raw-at, starts-next}
 
 -- arcs of one end in common have no neighbour twice

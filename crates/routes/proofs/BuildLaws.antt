@@ -9,20 +9,19 @@ use lib.Dec.{eqb}
 use lib.ListN.{length, getD, length-map}
 use lib.Seq.{ext-getD}
 use Rattle.rules.specs.Numbers.{maxLinkWeight}
-use Rattle.rules.specs.Lists.{distinct, range}
+use Rattle.rules.specs.Lists.{In, distinct, range}
 use Rattle.rules.specs.Columns.{Links, linkList, Entry, Hierarchy, Side, table, entry, rank, begin, places, entries}
 use Rattle.rules.specs.TableRules.{table-test}
 use Rattle.rules.specs.Refusals.{BuildCall, first-met, check-rows, check-refusal}
 use Rattle.rules.specs.Graph.{Arc}
 use Rattle.rules.specs.Build.{arcs-of, neighbour-of, raw, raws, Building, finish-contraction, build}
 use Rattle.rules.proofs.TablesDecided.{tables-decided}
-use Rattle.routes.specs.Paths.{In}
+use Rattle.rules.proofs.Members.{getD-in}
+use Rattle.rules.proofs.Prefixes.{map-at, range-length, range-at}
 use Rattle.routes.specs.Promise.{Promise}
 use Rattle.routes.proofs.Levels.{rank-of}
 use Rattle.routes.proofs.Accepted.{AcceptedBuild, accepted-build}
-use Rattle.routes.proofs.Positions.{getD-in}
 use Rattle.routes.proofs.Starts.{Contracted, ranked, contraction-went}
-use Rattle.routes.proofs.Prefixes.{map-at, range-length, range-at}
 use Rattle.routes.proofs.BuiltTables.{no-arc, no-raw, no-level, no-entry, finish-keeps, L, begin-is, starts-at, starts-next, entry-is, raw-at, before-end, level-at, level-is, rank-is, rank-at}
 use Rattle.routes.proofs.BuildHalf.{neighbours-distinct}
 use Rattle.routes.proofs.Refused.{Went, build-went, build-half}
@@ -34,7 +33,7 @@ module _ (c : BuildCall) (ok : AcceptedBuild c) (small : (w : ℕ) → In w (c .
 
   -- the neighbours of a rank's entries are those of its level's arcs
   rank-neighbours : (s : Side) (r : ℕ) → r < c .nodes →
-    map (λ e. entry (table tables s) e .neighbour) (places (table tables s) r) ≡ map (neighbour-of s) (arcs-of s (getD (b .levels) r no-level))
+      map (λ e. entry (table tables s) e .neighbour) (places (table tables s) r) ≡ map (neighbour-of s) (arcs-of s (getD (b .levels) r no-level))
   unfolding places raw
   rank-neighbours s r h =
       let t = table tables s in
@@ -44,21 +43,21 @@ module _ (c : BuildCall) (ok : AcceptedBuild c) (small : (w : ℕ) → In w (c .
       let next = starts-next c ok small b done s r h in
       let many : length (range (begin t r) (begin t (suc r))) ≡ length arcs = range-length (begin t r) (begin t (suc r)) ∙ omega (arith, low, high, next) in
       ext-getD 0 _ _ (length-map (places t r) _ ∙ many ∙ sym (length-map arcs (neighbour-of s)))
-        (λ i hi.
-        let hi′ : i < length arcs = omega (arith, length-map (places t r) (λ e. entry t e .neighbour), many) in
-        let at : getD (places t r) i 0 ≡ starts-at c ok small b done s r + i =
-          range-at (begin t r) (begin t (suc r)) i 0 (omega (arith, low, high, next)) ∙ ap (λ k. k + i) low
-        in
-        map-at (λ e. entry t e .neighbour) (places t r) i 0 0 (omega (arith, many)) ∙
-          ap (λ e. entry t e .neighbour) at ∙
-          ap (λ e. e .neighbour) (entry-is c ok small b done s _ (before-end c ok small b done s (suc r) h (omega (arith, next)))) ∙
-          finish-keeps _ _ s _ .neighbour ∙
-          ap (λ x. x .neighbour) (raw-at c ok small b done s r i h hi′) ∙
-          sym (map-at (neighbour-of s) arcs i no-arc 0 hi′))
+      (λ i hi.
+      let hi′ : i < length arcs = omega (arith, length-map (places t r) (λ e. entry t e .neighbour), many) in
+      let at : getD (places t r) i 0 ≡ starts-at c ok small b done s r + i =
+      range-at (begin t r) (begin t (suc r)) i 0 (omega (arith, low, high, next)) ∙ ap (λ k. k + i) low
+      in
+      map-at (λ e. entry t e .neighbour) (places t r) i 0 0 (omega (arith, many)) ∙
+      ap (λ e. entry t e .neighbour) at ∙
+      ap (λ e. e .neighbour) (entry-is c ok small b done s _ (before-end c ok small b done s (suc r) h (omega (arith, next)))) ∙
+      finish-keeps _ _ s _ .neighbour ∙
+      ap (λ x. x .neighbour) (raw-at c ok small b done s r i h hi′) ∙
+      sym (map-at (neighbour-of s) arcs i no-arc 0 hi′))
 
   once : (s : Side) (r : ℕ) → r < c .nodes → distinct (map (λ e. entry (table tables s) e .neighbour) (places (table tables s) r)) ≡ true
   once s r h =
       let at = level-at c ok small b done r h in
       let lev = level-is c ok small b done (getD (b .levels) r no-level) (at .1) in
       rw (rank-neighbours s r h)
-        (neighbours-distinct s (getD (b .levels) r no-level .node) (arcs-of s (getD (b .levels) r no-level)) (lev .apart s) (lev .own s))
+      (neighbours-distinct s (getD (b .levels) r no-level .node) (arcs-of s (getD (b .levels) r no-level)) (lev .apart s) (lev .own s))

@@ -10,7 +10,7 @@ use lib.Dec.{eqb, ltb, leb}
 use lib.ListN.{length, getD, length-map}
 use borrow.Author.Tests.{eqb-true, eqb-false, eq-eqb, ne-eqb}
 use Rattle.rules.specs.Numbers.{maxNodes, maxWeight, maxLinkWeight, invalid, noWeight}
-use Rattle.rules.specs.Lists.{position, flat-map, over, range, distinct}
+use Rattle.rules.specs.Lists.{In, position, flat-map, over, range, distinct}
 use Rattle.rules.specs.Columns.{Links, Link, linkList, Table, Entry, Hierarchy, Side, forward, backward, table, entry, rank, begin, places, room, EquallyLong}
 use Rattle.rules.specs.TableRules.{tail-of, head-of, used, Fitting, Opens, EntryRules, SideRules, TableRules}
 use Rattle.rules.specs.Refusals.{BuildCall}
@@ -18,14 +18,15 @@ use Rattle.rules.specs.Graph.{Arc}
 use Rattle.rules.specs.Build.{Level, Raw, arcs-of, neighbour-of, raw, level-raws, raws, Building, place, open-entry, finish, running-sums, starts-of, laid, finished, ranks-of, finish-contraction}
 use Rattle.rules.proofs.Decides.{and-both, both-and}
 use Rattle.rules.proofs.Ranges.{Differ, distinct-decides}
-use Rattle.routes.specs.Paths.{In, Edges, Path, stay, step}
-use Rattle.routes.proofs.Cases.{on-test}
-use Rattle.routes.proofs.Positions.{getD-in, in-getD, position-below, position-passes, position-first, position-is, same-position}
+use Rattle.rules.proofs.Cases.{on-test}
+use Rattle.rules.proofs.Members.{getD-in, in-getD, in-map, map-in}
+use Rattle.rules.proofs.Positions.{position-below, position-passes, position-first, position-is, same-position}
+use Rattle.rules.proofs.Prefixes.{prefix, prefix-next, prefix-most, sums-at, sums-length, sizes, flat-length, flat-at, in-flat, flat-in, over-at, over-length, map-at, counted-at, counted-length, in-range, range-in, range-length, range-at}
+use Rattle.routes.specs.Paths.{Edges, Path, stay, step}
 use Rattle.routes.proofs.Levels.{rank-of, Later, Opened, Centred, ArcOk, LevelOk, own-end, apart-same}
 use Rattle.routes.proofs.Runs.{RunOk, Fit, LevelEdges, LevelUpDown}
 use Rattle.routes.proofs.Accepted.{AcceptedBuild}
-use Rattle.routes.proofs.Starts.{Contracted, ranked, in-map, map-in}
-use Rattle.routes.proofs.Prefixes.{prefix, prefix-next, prefix-most, sums-at, sums-length, sizes, flat-length, flat-at, in-flat, flat-in, over-at, over-length, map-at, counted-at, counted-length, in-range, range-in, range-length, range-at}
+use Rattle.routes.proofs.Starts.{Contracted, ranked}
 
 -- nothing, where a list is asked beyond its end
 pub no-arc : Arc

@@ -13,8 +13,10 @@ use Rattle.rules.specs.Numbers.{noWeight, maxWeight}
 use Rattle.rules.specs.Graph.{Arc, outs, ins, addOrReduce, disconnect}
 use Rattle.rules.specs.Search.{Search, init, Found, find-max-weight}
 use Rattle.rules.specs.Build.{Step, went, refused, and-then, in-pool, Contracting, shortcut, add, unless-witness, ask, within-sum, pair, pairs-of, handle-shortcuts, contract-node}
-use Rattle.routes.specs.Paths.{In, Edges, Path, stay, step, Within}
-use Rattle.routes.proofs.Cases.{on-test, went-same, refused-not-went, both-went}
+use Rattle.rules.specs.Lists.{In}
+use Rattle.rules.proofs.Cases.{on-test}
+use Rattle.rules.proofs.Steps.{went-same, refused-not-went, both-went}
+use Rattle.routes.specs.Paths.{Edges, Path, stay, step, Within}
 use Rattle.routes.proofs.Paths.{Lighter, lighter-refl, lighter-trans, lighter-within, within-join, within-more, edge-within, within-stay, said}
 use Rattle.routes.proofs.Graphs.{Arcs, Avoiding, avoiding-lighter, lighter-after-add, added-within, in-outs, in-ins, outs-in, ins-in, by-ends, disconnected-in}
 use Rattle.routes.proofs.Searches.{Walked, walked-lighter, init-walked, search-walked, answer-walked}

@@ -10,20 +10,21 @@ use lib.Dec.{eqb, leb}
 use lib.ListN.{length, length-append, length-map}
 use borrow.Author.Tests.{le-leb}
 use Rattle.rules.specs.Numbers.{maxLinkWeight}
-use Rattle.rules.specs.Lists.{flat-map}
+use Rattle.rules.specs.Lists.{In, flat-map}
 use Rattle.rules.specs.Columns.{Link, linkList, Side, forward, backward, room}
 use Rattle.rules.specs.Refusals.{BuildCall}
 use Rattle.rules.specs.Graph.{Arc}
 use Rattle.rules.specs.Build.{Step, went, refused, in-pool, Level, arcs-of, neighbour-of, level-raws, raws, in-tables, Building, contraction}
 use Rattle.rules.proofs.Decides.{both-and}
 use Rattle.rules.proofs.Ranges.{Differ, distinct-decides}
-use Rattle.routes.specs.Paths.{In}
-use Rattle.routes.proofs.Positions.{same-position}
+use Rattle.rules.proofs.Members.{in-map}
+use Rattle.rules.proofs.Positions.{same-position}
+use Rattle.rules.proofs.Pigeonhole.{at-most}
+use Rattle.rules.proofs.Prefixes.{flat-map-append}
 use Rattle.routes.proofs.Levels.{rank-of, level-of, with-level, GraphOk, LevelOk, level-ok}
 use Rattle.routes.proofs.Runs.{RunOk, Stepped, next-rank, next-inside}
 use Rattle.routes.proofs.Accepted.{AcceptedBuild}
-use Rattle.routes.proofs.Pigeonhole.{at-most}
-use Rattle.routes.proofs.Starts.{in-map, first-building}
+use Rattle.routes.proofs.Starts.{first-building}
 use Rattle.routes.proofs.Room.{codes-distinct, live-most}
 use Rattle.routes.proofs.BuiltTables.{ends-by-side, level-size}
 use Rattle.routes.proofs.Refused.{Only, went-only, contraction-only, pool-leaf, tables-leaf}
@@ -46,11 +47,6 @@ triangle-twice : (n : ℕ) → 2 * triangle n ≡ n * (n - 1)
 unfolding triangle
 triangle-twice zero = refl
 triangle-twice (suc n) = triangle-next n ∙ ap (λ k. suc n * k) (omega arith)
-
-flat-append : {A B : Type 0} (f : A → List B) (xs ys : List A) → flat-map f (xs ++ ys) ≡ flat-map f xs ++ flat-map f ys
-unfolding flat-map
-flat-append f [] ys = refl
-flat-append f (x ∷ xs) ys = ap (λ zs. f x ++ zs) (flat-append f xs ys) ∙ sym (append-assoc (f x) (flat-map f xs) (flat-map f ys))
 
 -- a level of rank r has at most n - 1 - r arcs a side: the neighbours' ranks are higher, and differ
 level-short : (order : List ℕ) (ls : List Link) (levels : List Level) (l : Level) → LevelOk order ls levels l → (s : Side) →
@@ -114,7 +110,7 @@ module _ (c : BuildCall) (ok : AcceptedBuild c) (small : (w : ℕ) → In w (c .
       length-append (b .levels) (l ∷ []) ∙ add-one (length (b .levels))
       in
       let entries : length (raws s (with-level (b .levels) v (b .graph))) ≡ length (raws s (b .levels)) + length (arcs-of s l) =
-      ap length (flat-append (level-raws s) (b .levels) (l ∷ [])) ∙ length-append (raws s (b .levels)) (level-raws s l ++ []) ∙
+      ap length (flat-map-append (level-raws s) (b .levels) (l ∷ [])) ∙ length-append (raws s (b .levels)) (level-raws s l ++ []) ∙
       ap (λ k. length (raws s (b .levels)) + k) (ap length (append-nil (level-raws s l)) ∙ level-size s l)
       in
       let short =

@@ -10,16 +10,18 @@ use lib.Dec.{eqb, ltb, leb}
 use lib.ListN.{length, getD}
 use borrow.Author.Tests.{eqb-true, eqb-false, eq-eqb, ne-eqb, ltb-false, leb-true, leb-false}
 use Rattle.rules.specs.Numbers.{noWeight, maxWeight, invalid}
-use Rattle.rules.specs.Lists.{keep, position}
+use Rattle.rules.specs.Lists.{In, keep, position}
 use Rattle.rules.specs.Columns.{Link, Side, forward, backward}
 use Rattle.rules.specs.Graph.{Arc, outs, ins, joins, reduce, addOrReduce, disconnect}
 use Rattle.rules.specs.Build.{Step, went, refused, and-then, in-pool, shortcut, handle-shortcuts, contract-node, Level, arcs-of, neighbour-of}
 use Rattle.rules.proofs.Decides.{both-and}
-use Rattle.routes.specs.Paths.{In, Edges, Path, stay, step, Within}
+use Rattle.rules.proofs.Cases.{on-test}
+use Rattle.rules.proofs.Steps.{went-same, refused-not-went, both-went}
+use Rattle.rules.proofs.Members.{in-keep, keep-in}
+use Rattle.rules.proofs.Positions.{position-is, same-position}
+use Rattle.routes.specs.Paths.{Edges, Path, stay, step, Within}
 use Rattle.routes.specs.Demand.{Linked}
-use Rattle.routes.proofs.Cases.{on-test, went-same, refused-not-went, both-went}
-use Rattle.routes.proofs.Positions.{position-is, same-position}
-use Rattle.routes.proofs.Graphs.{in-keep, keep-in, in-outs, in-ins, in-disconnected, joined-ends, reduced}
+use Rattle.routes.proofs.Graphs.{in-outs, in-ins, in-disconnected, joined-ends, reduced}
 use Rattle.routes.proofs.Contraction.{Loopless, shortcuts-keep, contracted}
 
 -- no two arcs of the same ends, at any two places

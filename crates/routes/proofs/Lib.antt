@@ -1,16 +1,12 @@
 -- The proof of the demands, from the bottom up.
-pub mod Cases
 pub mod Paths
 pub mod Graphs
 pub mod Searches
 pub mod Contraction
-pub mod Positions
 pub mod Levels
 pub mod Runs
 pub mod Accepted
-pub mod Pigeonhole
 pub mod Starts
-pub mod Prefixes
 pub mod BuiltTables
 pub mod Room
 pub mod BuildHalf
@@ -18,7 +14,6 @@ pub mod Refused
 pub mod Enough
 pub mod BuildLaws
 pub mod SearchBounds
-pub mod QueryLists
 pub mod QueryTables
 pub mod QueryWalks
 pub mod QueryOffers

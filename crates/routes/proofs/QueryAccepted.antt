@@ -9,16 +9,15 @@ use lib.Dec.{eqb, ltb, leb}
 use lib.ListN.{length}
 use borrow.Author.Tests.{ltb-true, ltb-false, leb-true, eqb-true, not-false}
 use Rattle.rules.specs.Numbers.{maxEnds, maxWeight, noWeight}
-use Rattle.rules.specs.Lists.{all}
+use Rattle.rules.specs.Lists.{In, all}
 use Rattle.rules.specs.Columns.{forward, backward, table, Ends}
 use Rattle.rules.specs.TableRules.{TableRules}
 use Rattle.rules.specs.Refusals.{Row, first-met, QueryCall, ends-fit, offset-fits, check-rows, end-rows, query-refusal, short, query-scratch}
 use Rattle.rules.specs.Query.{End, zip-ends, endList, counts, Best, coincide, coincide-all, first-step, Half, untouched, enter, query-fuel, entered, searched}
 use Rattle.rules.proofs.Decides.{and-both, or-either}
 use Rattle.rules.proofs.TablesDecided.{tables-decided}
-use Rattle.routes.specs.Paths.{In}
-use Rattle.routes.proofs.Cases.{on-test}
-use Rattle.routes.proofs.QueryLists.{all-in, not-both}
+use Rattle.rules.proofs.Cases.{on-test, not-both}
+use Rattle.rules.proofs.Members.{all-each}
 use Rattle.routes.proofs.QueryOffers.{weight-at}
 use Rattle.routes.proofs.QueryState.{EndRules, Sound, first-sound, enter-unsettled}
 use Rattle.routes.proofs.QueryTurns.{Met, no-best, improve-cases, Both, rounds-keep, rounds-finish}
@@ -77,8 +76,8 @@ ends-rules n e fit below fits =
       each = λ x m.
           let z = zipped-in (e .nodes) (e .offsets) x m in
           record {
-            node-below = ltb-true (x .node) n (all-in (λ v. ltb v n) (e .nodes) below (x .node) (z .0));
-            fits = offset-fitting (x .offset) (all-in offset-fits (e .offsets) fits (x .offset) (z .1));
+            node-below = ltb-true (x .node) n (all-each (λ v. ltb v n) (e .nodes) below (x .node) (z .0));
+            fits = offset-fitting (x .offset) (all-each offset-fits (e .offsets) fits (x .offset) (z .1));
           };
       listed = zipped-length (e .nodes) (e .offsets);
     }

@@ -9,15 +9,14 @@ use lib.Dec.{eqb}
 use lib.ListN.{length, length-append}
 use borrow.Author.Tests.{eqb-false, eq-eqb, ne-eqb}
 use Rattle.rules.specs.Numbers.{noWeight, invalid}
-use Rattle.rules.specs.Lists.{flat-map}
+use Rattle.rules.specs.Lists.{In, flat-map}
 use Rattle.rules.specs.Columns.{Link, Hierarchy, Side, forward, backward, table, entry, rank}
 use Rattle.rules.specs.TableRules.{used, TableRules}
 use Rattle.rules.specs.Unpack.{unpacked}
 use Rattle.rules.specs.Query.{End, Label, no-label, Half, climb, root}
-use Rattle.routes.specs.Paths.{In}
+use Rattle.rules.proofs.Cases.{on-test}
+use Rattle.rules.proofs.Prefixes.{flat-map-append}
 use Rattle.routes.specs.Promise.{Promise}
-use Rattle.routes.proofs.Cases.{on-test}
-use Rattle.routes.proofs.QueryLists.{flat-map-append}
 use Rattle.routes.proofs.QueryTables.{place-entry, place-used}
 use Rattle.routes.proofs.QueryWalks.{Towards, joined, towards-nowhere, towards-join, Solid, place-leads}
 use Rattle.routes.proofs.QueryOffers.{weight-at}

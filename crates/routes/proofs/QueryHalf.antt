@@ -15,12 +15,12 @@ use Rattle.rules.specs.Columns.{Link, Hierarchy, Side, forward, backward, rank,
 use Rattle.rules.specs.TableRules.{TableRules}
 use Rattle.rules.specs.Refusals.{QueryCall, query-refusal}
 use Rattle.rules.specs.Query.{endList, Best, Halves, climb, root, walk, no-route, handed-back, searched, route, unless-refused, query}
+use Rattle.rules.proofs.Cases.{on-test}
+use Rattle.rules.proofs.Pigeonhole.{at-most}
 use Rattle.routes.specs.Paths.{Path, stay, step}
 use Rattle.routes.specs.Demand.{Linked, Counts, Unreachable, LeastWalk, AnsweredNone, AnsweredWalk, Answered}
 use Rattle.routes.specs.Promise.{Promise, Entries}
-use Rattle.routes.proofs.Cases.{on-test}
 use Rattle.routes.proofs.Paths.{join}
-use Rattle.routes.proofs.QueryLists.{distinct-at-most}
 use Rattle.routes.proofs.QueryTables.{place-entry}
 use Rattle.routes.proofs.QueryWalks.{Trail, trail-path, shorter, trail-nodes, leads-join, leads-trail, leads-path, Solid, solid-path, trail-walk, walk-path, chain-leads}
 use Rattle.routes.proofs.QueryOffers.{weight-at}
@@ -163,7 +163,7 @@ module _ (ls : List Link) (q : QueryCall) (promise : Promise (q .nodes) ls (q .h
         )))
 
     short-enough : length found ≤ q .nodes
-    short-enough = distinct-at-most found (q .nodes) once (trail-nodes (λ u v w e. e .2) (down .node-below) trail)
+    short-enough = at-most (q .nodes) found once (trail-nodes (λ u v w e. e .2) (down .node-below) trail)
 
     least-walk : LeastWalk ls (q .sources) (q .targets) (searched q .best .sum) found
     least-walk =

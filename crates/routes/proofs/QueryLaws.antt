@@ -9,7 +9,7 @@ use Rattle.rules.specs.Heap.{Item}
 use Rattle.rules.specs.Columns.{Hierarchy, Side, table, entry, rank, places, Ends}
 use Rattle.rules.specs.TableRules.{used, TableRules}
 use Rattle.rules.specs.Query.{End, endList, Half, untouched, enter}
-use Rattle.routes.specs.Paths.{In}
+use Rattle.rules.specs.Lists.{In}
 use Rattle.routes.proofs.QueryTables.{place-entry}
 use Rattle.routes.proofs.QueryOffers.{weight-at, end-offer, after-enter}
 use Rattle.routes.proofs.QueryState.{LabelRules, Sound}

@@ -9,7 +9,8 @@ use Rattle.rules.specs.Numbers.{noWeight}
 use Rattle.rules.specs.Columns.{Link, Hierarchy, Side, forward, backward, opposite, table, entry}
 use Rattle.rules.specs.Unpack.{unpacked}
 use Rattle.rules.specs.Query.{End, Half, Halves, climb, root}
-use Rattle.routes.specs.Paths.{In, Path, stay, step}
+use Rattle.rules.specs.Lists.{In}
+use Rattle.routes.specs.Paths.{Path, stay, step}
 use Rattle.routes.specs.Demand.{Linked}
 use Rattle.routes.specs.Promise.{Promise, Entries}
 use Rattle.routes.proofs.Paths.{join}

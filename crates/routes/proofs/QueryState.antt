@@ -9,13 +9,12 @@ use native.Mathlib.Omega.{arith}
 use native.Mathlib.Decide.{decLt, ℕ-discrete}
 use lib.ListN.{length, length-map}
 use Rattle.rules.specs.Numbers.{maxWeight, noWeight, invalid}
-use Rattle.rules.specs.Lists.{update}
+use Rattle.rules.specs.Lists.{In, update}
 use Rattle.rules.specs.Heap.{Item}
 use Rattle.rules.specs.Columns.{Table, Hierarchy, Side, opposite, table, entry, rank, places}
 use Rattle.rules.specs.TableRules.{used, TableRules}
 use Rattle.rules.specs.Query.{End, Label, no-label, Half, untouched, enter}
-use Rattle.routes.specs.Paths.{In}
-use Rattle.routes.proofs.QueryLists.{update-same, update-other, Sorted, sorted-none}
+use Rattle.rules.proofs.Heaps.{update-same, update-other, Sorted, sorted-none}
 use Rattle.routes.proofs.QueryOffers.{weight-at, Offer, Lowered, After, falls, lowered-weight, lowered-waits, end-offer, after-enter}
 
 -- How many of a table's first k entries have a base that is not settled: each may still be offered along, once.

@@ -14,9 +14,9 @@ use Rattle.rules.specs.Columns.{Table, Entry, Hierarchy, Side, forward, backwar
 use Rattle.rules.specs.TableRules.{tail-of, used, Opens, EntryRules, SideRules, TableRules}
 use Rattle.rules.specs.Unpack.{is-shortcut, unpack, unpacked}
 use Rattle.rules.proofs.Decides.{both-and}
-use Rattle.routes.proofs.Cases.{on-test}
-use Rattle.routes.proofs.QueryLists.{in-range, range-in, range-length}
-use Rattle.routes.specs.Paths.{In}
+use Rattle.rules.specs.Lists.{In}
+use Rattle.rules.proofs.Cases.{on-test}
+use Rattle.rules.proofs.Prefixes.{range-in, in-range, range-length}
 
 -- of the numbers below the last of rising starts, each lies between two of them
 stands-between : (f : ℕ → ℕ) (n : ℕ) → f 0 ≡ 0 → (e : ℕ) → e < f n → (r : ℕ) × (r < n) × (f r ≤ e) × (e < f (suc r))
@@ -49,7 +49,7 @@ module _ (n : ℕ) (h : Hierarchy) (rules : TableRules n h) (s : Side) where
   pub place-entry : (v : ℕ) → v < n → (e : ℕ) → In e (places (table h s) (rank h v)) → EntryRules n h s (rank h v) (entry (table h s) e)
   unfolding places
   place-entry v below e m =
-      let r = range-in (begin (table h s) (rank h v)) (begin (table h s) (suc (rank h v))) e m in
+      let r = in-range (begin (table h s) (rank h v)) (begin (table h s) (suc (rank h v))) e m in
       side-of-rules .entry-rules (rank h v) (rules .ranks-below v below) e (r .0) (r .1)
 
   pub place-base : (v : ℕ) → v < n → (e : ℕ) → In e (places (table h s) (rank h v)) → entry (table h s) e .base ≡ v
@@ -68,12 +68,12 @@ module _ (n : ℕ) (h : Hierarchy) (rules : TableRules n h) (s : Side) where
   pub place-used : (v : ℕ) → v < n → (e : ℕ) → In e (places (table h s) (rank h v)) → e < used n (table h s)
   unfolding places
   place-used v below e m =
-      let r = range-in (begin (table h s) (rank h v)) (begin (table h s) (suc (rank h v))) e m in
+      let r = in-range (begin (table h s) (rank h v)) (begin (table h s) (suc (rank h v))) e m in
       omega (arith, r .1, places-within v below .1)
 
 pub in-places : (t : Table) (r e : ℕ) → begin t r ≤ e → e < begin t (suc r) → In e (places t r)
 unfolding places
-in-places t r e low high = in-range (begin t r) (begin t (suc r)) e low high
+in-places t r e low high = range-in (begin t r) (begin t (suc r)) e low high
 
 pub places-length : (t : Table) (r : ℕ) → length (places t r) ≡ begin t (suc r) - begin t r
 unfolding places

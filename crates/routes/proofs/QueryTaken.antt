@@ -11,14 +11,14 @@ use lib.Dec.{ltb}
 use lib.ListN.{length, length-append, length-map}
 use borrow.Author.Tests.{ltb-true, ltb-false}
 use Rattle.rules.specs.Numbers.{maxNodes, maxWeight, noWeight}
-use Rattle.rules.specs.Lists.{update}
+use Rattle.rules.specs.Lists.{In, update}
 use Rattle.rules.specs.Heap.{Item}
 use Rattle.rules.specs.Columns.{Hierarchy, Side, opposite, table, entry, rank, begin, places, entries}
 use Rattle.rules.specs.TableRules.{used, TableRules}
 use Rattle.rules.specs.Query.{End, Label, Half, with-heap, stalls, relax, mark-settled, settle}
-use Rattle.routes.specs.Paths.{In}
-use Rattle.routes.proofs.Cases.{on-test}
-use Rattle.routes.proofs.QueryLists.{not-both, update-same, update-other, sorted-first, sorted-rest, in-any, any-in}
+use Rattle.rules.proofs.Cases.{on-test, not-both}
+use Rattle.rules.proofs.Members.{in-any, any-in}
+use Rattle.rules.proofs.Heaps.{update-same, update-other, sorted-first, sorted-rest}
 use Rattle.routes.proofs.QueryTables.{place-entry, place-base, places-within, places-length, in-places}
 use Rattle.routes.proofs.QueryOffers.{weight-at, Offer, After, falls, lowered-weight, lowered-waits, entry-offer, after-relax}
 use Rattle.routes.proofs.QueryState.{unsettled, unsettled-less, load, Origin, unlabelled, listed, came, Stalled, Standing, waiting, done, stalled, heavy, ItemRules, LabelRules, SettledRules, Sound}

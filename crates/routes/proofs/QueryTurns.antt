@@ -13,7 +13,7 @@ use Rattle.rules.specs.Heap.{Item}
 use Rattle.rules.specs.Columns.{Hierarchy, Side, forward, backward, opposite, entries}
 use Rattle.rules.specs.TableRules.{TableRules}
 use Rattle.rules.specs.Query.{End, Best, improve, Label, Half, with-heap, stalls, settle, Turned, turn, Halves, round, both-empty, rounds}
-use Rattle.routes.proofs.Cases.{on-test}
+use Rattle.rules.proofs.Cases.{on-test}
 use Rattle.routes.proofs.QueryOffers.{weight-at}
 use Rattle.routes.proofs.QueryState.{load, Sound, better}
 use Rattle.routes.proofs.QueryTaken.{Clear, stall-none, taken-item, pops-never-fall, pass-settled, pass-heavy, pass-stalled, settle-sound, settle-load, settle-settled, settle-falls, settle-stays, settle-own}

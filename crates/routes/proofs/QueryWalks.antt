@@ -9,16 +9,16 @@ use native.Mathlib.Omega.{arith}
 use native.Mathlib.Nat.{add-assoc, add-comm}
 use lib.Dec.{eqb}
 use borrow.Author.Tests.{eqb-true}
-use Rattle.rules.specs.Lists.{any, distinct}
+use Rattle.rules.specs.Lists.{In, any, distinct}
 use Rattle.rules.specs.Columns.{Link, Entry, Hierarchy, Side, forward, backward, opposite, table, entry, rank, places}
 use Rattle.rules.specs.TableRules.{tail-of, head-of, used, EntryRules}
 use Rattle.rules.specs.Unpack.{is-shortcut, unpack, unpacked}
-use Rattle.routes.specs.Paths.{In, Edges, Path, stay, step}
+use Rattle.rules.proofs.Cases.{on-test}
+use Rattle.rules.proofs.Members.{any-in}
+use Rattle.routes.specs.Paths.{Edges, Path, stay, step}
 use Rattle.routes.specs.Demand.{Linked, Walk}
 use Rattle.routes.specs.Promise.{Promise, Entries}
-use Rattle.routes.proofs.Cases.{on-test}
 use Rattle.routes.proofs.Paths.{said}
-use Rattle.routes.proofs.QueryLists.{any-in}
 use Rattle.routes.proofs.QueryTables.{used-entry, place-entry, place-base, place-used, shortcut-opens, unpack-shortcut, unpack-plain}
 
 pub data Trail (E : Edges) (t : ℕ) : ℕ → ℕ → List ℕ → Type 0 where

@@ -14,9 +14,10 @@ use Rattle.rules.specs.Refusals.{BuildCall, build-refusal}
 use Rattle.rules.specs.Graph.{Arc, outs, ins, addOrReduce}
 use Rattle.rules.specs.Search.{init, find-max-weight}
 use Rattle.rules.specs.Build.{Step, went, refused, and-then, in-pool, from-links, Contracting, shortcut, add, unless-witness, ask, within-sum, pair, pairs-of, handle-shortcuts, contract-node, Level, raws, in-tables, Building, rank-step, rank-steps, contraction, finish-contraction, built, unless-refused, build}
-use Rattle.routes.specs.Paths.{In}
+use Rattle.rules.specs.Lists.{In}
+use Rattle.rules.proofs.Cases.{on-test}
+use Rattle.rules.proofs.Steps.{refused-not-went}
 use Rattle.routes.specs.Promise.{Promise}
-use Rattle.routes.proofs.Cases.{on-test, refused-not-went}
 use Rattle.routes.proofs.Contraction.{Adds, pair-keeps, pairs-of-keeps, pool-held}
 use Rattle.routes.proofs.Levels.{rank-of, with-level, GraphOk, before, adds}
 use Rattle.routes.proofs.Runs.{RunOk, Stepped, rank-stepped, step-ok, next-rank}

@@ -10,17 +10,16 @@ use native.Mathlib.Nat.{mul-suc, suc-mul, mul-le-mul-right, mul-comm}
 use lib.Dec.{eqb}
 use lib.ListN.{length, length-map}
 use borrow.Author.Tests.{eq-eqb}
-use Rattle.rules.specs.Lists.{any, distinct, position}
+use Rattle.rules.specs.Lists.{In, any, distinct, position}
 use Rattle.rules.specs.Columns.{Link, Side}
 use Rattle.rules.specs.Graph.{Arc, joins}
 use Rattle.rules.specs.Build.{Level}
 use Rattle.rules.proofs.Decides.{both-and}
-use Rattle.routes.specs.Paths.{In}
-use Rattle.routes.proofs.Cases.{on-test}
-use Rattle.routes.proofs.Positions.{same-position}
+use Rattle.rules.proofs.Cases.{on-test}
+use Rattle.rules.proofs.Members.{in-map}
+use Rattle.rules.proofs.Positions.{same-position}
+use Rattle.rules.proofs.Pigeonhole.{at-most, any-same, distinct-more}
 use Rattle.routes.proofs.Levels.{Apart, rank-of, GraphOk}
-use Rattle.routes.proofs.Pigeonhole.{at-most, any-in, distinct-more}
-use Rattle.routes.proofs.Starts.{in-map}
 
 same-ends-join : (x y : Arc) → x .tail ≡ y .tail → x .head ≡ y .head → joins x y ≡ true
 unfolding joins
@@ -35,7 +34,7 @@ codes-distinct code (x ∷ xs) a told =
     distinct-more (code x) (map code xs)
     (on-test (any (eqb (code x)) (map code xs))
     (λ t.
-    let m = in-map code _ xs (any-in (code x) (map code xs) t) in
+    let m = in-map code _ xs (any-same (code x) (map code xs) t) in
     let d = told x (m .0) (List·Memᴰ·head refl) (List·Memᴰ·tail (m .1)) (m .2) in
     absurd (false≢true (sym (a .0 (m .0) (m .1)) ∙ same-ends-join x (m .0) (d .0) (d .1))))
     (λ t. t))

@@ -12,17 +12,19 @@ use lib.Dec.{eqb, ltb, leb}
 use lib.ListN.{length, getD, drop, length-append, length-map}
 use lib.Seq.{getD-append-seam, drop-append-seam, getD-append-add}
 use borrow.Author.Tests.{eqb-true, eq-eqb, leb-true}
-use Rattle.rules.specs.Lists.{position}
+use Rattle.rules.specs.Lists.{In, position}
 use Rattle.rules.specs.Columns.{Link, Side, forward, backward, room}
 use Rattle.rules.specs.Refusals.{BuildCall}
 use Rattle.rules.specs.Graph.{Arc, outs, ins}
 use Rattle.rules.specs.Build.{Step, went, refused, and-then, in-tables, contract-node, Level, arcs-of, neighbour-of, raws, Building, rank-step, rank-steps}
 use Rattle.rules.proofs.Decides.{and-both}
 use Rattle.rules.proofs.Ranges.{Differ}
-use Rattle.routes.specs.Paths.{In, Edges, Path, stay, step, Within}
-use Rattle.routes.proofs.Cases.{on-test, went-same, refused-not-went, both-went}
+use Rattle.rules.proofs.Cases.{on-test}
+use Rattle.rules.proofs.Steps.{went-same, refused-not-went, both-went}
+use Rattle.rules.proofs.Members.{getD-in}
+use Rattle.rules.proofs.Positions.{position-is, position-first, same-position}
+use Rattle.routes.specs.Paths.{Edges, Path, stay, step, Within}
 use Rattle.routes.proofs.Paths.{last-edge, lighter-path, said}
-use Rattle.routes.proofs.Positions.{position-is, position-first, same-position, getD-in}
 use Rattle.routes.proofs.Graphs.{Arcs, in-outs, in-ins, outs-in, ins-in}
 use Rattle.routes.proofs.Contraction.{contraction-keeps}
 use Rattle.routes.proofs.Levels.{level-of, with-level, rank-of, Later, GraphOk, LevelOk, level-ok, level-more, contracted-ok}

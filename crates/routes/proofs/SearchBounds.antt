@@ -14,15 +14,10 @@ use Rattle.rules.specs.Lists.{keep, update}
 use Rattle.rules.specs.Heap.{Item, leaves-first, push}
 use Rattle.rules.specs.Graph.{Arc, leaves, outs, joins, reduce, addOrReduce}
 use Rattle.rules.specs.Search.{Search, init, offer, relax, with-heap, mark-settled, settle, Found, reached, run, search-fuel, answer, find-max-weight}
-use Rattle.routes.proofs.Cases.{on-test}
+use Rattle.rules.proofs.Cases.{on-test}
+use Rattle.rules.proofs.Heaps.{update-same, update-other, push-length}
 use Rattle.routes.proofs.Graphs.{reduced}
-use Rattle.routes.proofs.Searches.{update-same, update-other, search-keeps}
-
-pub push-length : (i : Item) (q : List Item) → length (push i q) ≡ suc (length q)
-unfolding push
-push-length i [] = refl
-push-length i (j ∷ q) =
-    on-test (leaves-first i j) (λ t. rw (t, push)) (λ t. rw (t, push) (ap suc (push-length i q)))
+use Rattle.routes.proofs.Searches.{search-keeps}
 
 offer-length : (i : Item) (s : Search) → length (offer i s .heap) ≤ suc (length (s .heap))
 unfolding offer

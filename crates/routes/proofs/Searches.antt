@@ -10,36 +10,15 @@ use native.Mathlib.Omega.{arith}
 use lib.Dec.{eqb, ltb, leb}
 use borrow.Author.Tests.{eqb-true, eqb-false, eq-eqb, ne-eqb, ltb-true, leb-true}
 use Rattle.rules.specs.Numbers.{noWeight}
-use Rattle.rules.specs.Lists.{update}
+use Rattle.rules.specs.Lists.{In, update}
 use Rattle.rules.specs.Heap.{Item, leaves-first, push}
 use Rattle.rules.specs.Graph.{Arc, outs, disconnect}
 use Rattle.rules.specs.Search.{Search, init, offer, relax, with-heap, mark-settled, settle, Found, reached, run, search-fuel, answer, find-max-weight}
-use Rattle.routes.specs.Paths.{In, Edges, Path, stay, step, Within}
-use Rattle.routes.proofs.Cases.{on-test}
+use Rattle.rules.proofs.Cases.{on-test}
+use Rattle.rules.proofs.Heaps.{update-same, update-other, push-in}
+use Rattle.routes.specs.Paths.{Edges, Path, stay, step, Within}
 use Rattle.routes.proofs.Paths.{Lighter, lighter-within, within-join, edge-within}
 use Rattle.routes.proofs.Graphs.{Arcs, Avoiding, by-ends, in-outs, in-disconnected, disconnected-in, avoiding-never-at}
-
-pub in-push : (i j : Item) (q : List Item) → In j (push i q) → (j ≡ i) ⊎ In j q
-unfolding push
-in-push i j [] m = List·Memᴰ·cases-cons m
-in-push i j (k ∷ q) m =
-    on-test (leaves-first i k)
-    (λ t. List·Memᴰ·cases-cons (rw (t, push) at m))
-    (λ t.
-    elim (List·Memᴰ·cases-cons (rw (t, push) at m)) [
-      | inl here ↦ inr (List·Memᴰ·head here)
-      | inr later ↦
-          elim (in-push i j q later) [ inl new ↦ inl new | inr old ↦ inr (List·Memᴰ·tail old) ]
-    ])
-
-module _ {A : Type 0} (at : ℕ) (value : A) (f : ℕ → A) where
-  pub update-same : (k : ℕ) → k ≡ at → update at value f k ≡ value
-  unfolding update
-  update-same k e = rw (eq-eqb k at e, update)
-
-  pub update-other : (k : ℕ) → (k ≡ at → ⊥) → update at value f k ≡ f k
-  unfolding update
-  update-other k e = rw (ne-eqb k at e, update)
 
 -- Every label, and every entry of the heap, is the weight of a walk, or more.
 pub record Walked (E : Edges) (a : ℕ) (s : Search) : Type 0 where
@@ -84,7 +63,7 @@ module _ {E : Edges} {a : ℕ} where
             ];
         items =
             λ j m.
-            elim (in-push i j (s .heap) m) [
+            elim (push-in i (s .heap) j m) [
               | inl new ↦ rw new p
               | inr old ↦ x .items j old
             ];

@@ -9,40 +9,25 @@ use lib.Dec.{eqb, ltb}
 use lib.ListN.{length}
 use borrow.Author.Tests.{eqb-true, eqb-false, eq-eqb, ne-eqb}
 use Rattle.rules.specs.Numbers.{maxWeight, maxLinkWeight, invalid}
-use Rattle.rules.specs.Lists.{flat-map}
+use Rattle.rules.specs.Lists.{In, flat-map}
 use Rattle.rules.specs.Columns.{Links, Link, linkList, zip-links}
 use Rattle.rules.specs.Refusals.{BuildCall, ascending}
 use Rattle.rules.specs.Graph.{Arc, joins}
 use Rattle.rules.specs.Build.{went, and-then, link-arc, from-links, Level, raws, Building, rank-steps, contraction}
 use Rattle.rules.proofs.Ranges.{Differ, distinct-decides}
-use Rattle.routes.specs.Paths.{In, Edges, Path, stay, step}
+use Rattle.rules.proofs.Cases.{on-test}
+use Rattle.rules.proofs.Steps.{both-went, went-same}
+use Rattle.rules.proofs.Members.{in-map, map-in}
+use Rattle.rules.proofs.Positions.{position-below}
+use Rattle.rules.proofs.Pigeonhole.{every-below}
+use Rattle.routes.specs.Paths.{Edges, Path, stay, step}
 use Rattle.routes.specs.Demand.{Linked}
-use Rattle.routes.proofs.Cases.{on-test, both-went, went-same}
 use Rattle.routes.proofs.Paths.{Lighter, lighter-path}
-use Rattle.routes.proofs.Positions.{position-below}
 use Rattle.routes.proofs.Graphs.{Arcs, joined-ends}
 use Rattle.routes.proofs.Contraction.{Loopless, pool-held}
 use Rattle.routes.proofs.Levels.{Apart, rank-of, Later, ArcOk, GraphOk}
 use Rattle.routes.proofs.Runs.{RunOk, Fit, levels-fit, LevelUpDown, up-down}
 use Rattle.routes.proofs.Accepted.{AcceptedBuild, Before, ascending-before}
-use Rattle.routes.proofs.Pigeonhole.{every-below}
-
-module _ {A B : Type 0} (f : A → B) where
-  pub in-map : (y : B) (xs : List A) → In y (map f xs) → (x : A) × In x xs × (y ≡ f x)
-  in-map y [] m = absurd (List·Memᴰ·not-nil m)
-  in-map y (x ∷ xs) m =
-      elim (List·Memᴰ·cases-cons m) [
-        | inl here ↦ (x, List·Memᴰ·head refl, here)
-        | inr later ↦ let r = in-map y xs later in (r .0, List·Memᴰ·tail (r .1), r .2)
-      ]
-
-  pub map-in : (x : A) (xs : List A) → In x xs → In (f x) (map f xs)
-  map-in x [] m = absurd (List·Memᴰ·not-nil m)
-  map-in x (y ∷ ys) m =
-      elim (List·Memᴰ·cases-cons m) [
-        | inl here ↦ List·Memᴰ·head (ap f here)
-        | inr later ↦ List·Memᴰ·tail (map-in x ys later)
-      ]
 
 -- ascending links have no ends in common
 links-apart : (ls : List Link) → ascending ls ≡ true → Apart (map link-arc ls)

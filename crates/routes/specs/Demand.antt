@@ -7,12 +7,11 @@ use mathlib.Core.List.{List, [], _∷_}
 use Prim.Native.Nat.{ℕ, _+_, _≤_}
 use lib.ListN.{length}
 use Rattle.rules.specs.Numbers.{noWeight, maxLinkWeight}
-use Rattle.rules.specs.Lists.{distinct, over}
+use Rattle.rules.specs.Lists.{In, distinct, over}
 use Rattle.rules.specs.Columns.{Link, linkList, Ends}
 use Rattle.rules.specs.Refusals.{BuildCall, QueryCall, query-refusal}
 use Rattle.rules.specs.Build.{build}
 use Rattle.rules.specs.Query.{endList, query}
-use Rattle.routes.specs.Paths.{In}
 
 -- a link from u to v of weight w
 abbrev pub Linked : List Link → ℕ → ℕ → ℕ → Type 0

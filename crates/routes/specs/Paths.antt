@@ -1,11 +1,7 @@
 -- Paths over any weighted edges: `E u v w` says that an edge leads from u to v and weighs w. Links, arcs of the
 -- preparation graph, and the entries of a table are such edges.
 use mathlib.Core.Path.{_≡_}
-use mathlib.Core.List.{List, List·Memᴰ}
 use Prim.Native.Nat.{ℕ, _+_, _≤_}
-
-abbrev pub In {ℓ} : {A : Type ℓ} → A → List A → Type ℓ
-In a l = List·Memᴰ a l
 
 abbrev pub Edges : Type 1
 Edges = ℕ → ℕ → ℕ → Type 0

@@ -7,7 +7,8 @@ use Rattle.rules.specs.Numbers.{invalid}
 use Rattle.rules.specs.Columns.{Link, Hierarchy, Side, forward, backward, table, entry, rank, places}
 use Rattle.rules.specs.TableRules.{tail-of, head-of, used, TableRules}
 use Rattle.rules.specs.Unpack.{is-shortcut}
-use Rattle.routes.specs.Paths.{In, Edges, Path}
+use Rattle.rules.specs.Lists.{In}
+use Rattle.routes.specs.Paths.{Edges, Path}
 use Rattle.routes.specs.Demand.{Linked}
 
 -- the entries of a table as edges, from a node to a higher one

@@ -1,4 +1,11 @@
 -- Laws about the definitions that several crates cite.
+pub mod Cases
 pub mod Decides
 pub mod Ranges
 pub mod TablesDecided
+pub mod Members
+pub mod Positions
+pub mod Pigeonhole
+pub mod Prefixes
+pub mod Heaps
+pub mod Steps

@@ -1,9 +1,13 @@
 -- What the definitions say of lists and tests, beyond the library's.
 use mathlib.Core.Bool.{Bool, true, false, not, _&&_, _||_}
-use mathlib.Core.List.{List, [], _∷_, _++_}
+use mathlib.Core.List.{List, [], _∷_, _++_, List·Memᴰ}
 use Prim.Native.Nat.{ℕ, zero, suc, _-_}
 use lib.Dec.{eqb}
 use lib.ListN.{length, drop, replicate}
+
+-- stands in a list
+abbrev pub In {ℓ} : {A : Type ℓ} → A → List A → Type ℓ
+In a l = List·Memᴰ a l
 
 module _ {ℓ} {A : Type ℓ} where
   unfoldable pub all : (A → Bool) → List A → Bool

@@ -1,16 +1,15 @@
 -- Lists laid end to end: where each begins, and what stands there.
 use mathlib.Core.Path.{_≡_, refl, sym, _∙_, ap}
 use mathlib.Core.Logic.{_⊎_, inl, inr}
-use mathlib.Core.List.{List, [], _∷_, _++_, map, List·Memᴰ·head, List·Memᴰ·tail, List·Memᴰ·cases-cons, List·Memᴰ·not-nil, Memᴰ·append-left, Memᴰ·append-right, List·Memᴰ·append-cases}
+use mathlib.Core.List.{List, [], _∷_, _++_, map, append-assoc, List·Memᴰ·head, List·Memᴰ·tail, List·Memᴰ·cases-cons, List·Memᴰ·not-nil, Memᴰ·append-left, Memᴰ·append-right, List·Memᴰ·append-cases}
 use Prim.Native.Nat.{ℕ, zero, suc, _+_, _-_, _*_, _≤_, _<_, zero-le}
 use native.Mathlib.Omega.{arith}
 use native.Mathlib.Decide.{ℕ-discrete, decLt}
 use native.Mathlib.Nat.{zero-add, add-assoc, mul-suc}
 use lib.ListN.{length, getD, drop, length-append, length-drop, length-map, List·getD-append}
 use lib.Seq.{getD-append-add}
-use Rattle.rules.specs.Lists.{flat-map, over, count-from, range}
+use Rattle.rules.specs.Lists.{In, flat-map, over, count-from, range}
 use Rattle.rules.specs.Build.{running-sums}
-use Rattle.routes.specs.Paths.{In}
 
 -- the first r numbers together
 unfoldable pub prefix : List ℕ → ℕ → ℕ
@@ -163,3 +162,8 @@ range-length a b = counted-length a (b - a)
 pub range-at : (a b k d : ℕ) → k < b - a → getD (range a b) k d ≡ a + k
 unfolding range
 range-at a b k d h = counted-at a (b - a) k d h
+
+pub flat-map-append : {A B : Type 0} (f : A → List B) (xs ys : List A) → flat-map f (xs ++ ys) ≡ flat-map f xs ++ flat-map f ys
+unfolding flat-map
+flat-map-append f [] ys = refl
+flat-map-append f (x ∷ xs) ys = ap (λ zs. f x ++ zs) (flat-map-append f xs ys) ∙ sym (append-assoc (f x) (flat-map f xs) (flat-map f ys))

@@ -9,23 +9,8 @@ use native.Mathlib.Nat.{le-of-suc-le-suc}
 use lib.Dec.{eqb}
 use lib.ListN.{length, getD}
 use borrow.Author.Tests.{eqb-true, eq-eqb}
-use Rattle.rules.specs.Lists.{position}
-use Rattle.routes.specs.Paths.{In}
-use Rattle.routes.proofs.Cases.{on-test}
-
-module _ {A : Type 0} where
-  pub getD-in : (xs : List A) (k : ℕ) (d : A) → k < length xs → In (getD xs k d) xs
-  getD-in [] k d h = absurd (omega arith)
-  getD-in (x ∷ xs) zero d h = List·Memᴰ·head refl
-  getD-in (x ∷ xs) (suc k) d h = List·Memᴰ·tail (getD-in xs k d (omega arith))
-
-  pub in-getD : (x : A) (xs : List A) (d : A) → In x xs → (k : ℕ) × (k < length xs) × (getD xs k d ≡ x)
-  in-getD x [] d m = absurd (List·Memᴰ·not-nil m)
-  in-getD x (y ∷ ys) d m =
-      elim (List·Memᴰ·cases-cons m) [
-        | inl here ↦ (0, omega arith, sym here)
-        | inr later ↦ let r = in-getD x ys d later in (suc (r .0), omega (arith, r .1), r .2)
-      ]
+use Rattle.rules.specs.Lists.{In, position}
+use Rattle.rules.proofs.Cases.{on-test}
 
 module _ {A : Type 0} (p : A → Bool) where
   pub position-passes : (xs : List A) (d : A) → position p xs < length xs → p (getD xs (position p xs) d) ≡ true

@@ -1,17 +1,14 @@
--- Cases on a test, and steps that went.
+-- Steps that went.
 use mathlib.Core.Path.{_≡_, refl}
 use mathlib.Core.Bool.{Bool, true, false, true≢false}
+use Prim.Native.Nat.{ℕ}
 use Rattle.rules.specs.Build.{Step, went, refused, and-then}
-
-pub on-test {ℓ} : {P : Type ℓ} (b : Bool) → (b ≡ true → P) → (b ≡ false → P) → P
-on-test true t f = t refl
-on-test false t f = f refl
 
 module _ {A : Type 0} where
   pub went-same : {a b : A} → _≡_ {A = Step A} (went a) (went b) → a ≡ b
   went-same e = cc
 
-  pub refused-not-went : {r : Prim.Native.Nat.ℕ} {b : A} → _≡_ {A = Step A} (refused r) (went b) → ⊥
+  pub refused-not-went : {r : ℕ} {b : A} → _≡_ {A = Step A} (refused r) (went b) → ⊥
   refused-not-went e = let z : _≡_ {A = Bool} true false = cc in true≢false z
 
 -- a chain of steps went because each step went

@@ -8,20 +8,18 @@ use native.Mathlib.Omega.{arith}
 use lib.Dec.{eqb, ltb}
 use lib.ListN.{length}
 use borrow.Author.Tests.{eqb-true, eqb-false, eq-eqb, ne-eqb, not-true}
-use Rattle.rules.specs.Lists.{all, any, keep, distinct}
+use Rattle.rules.specs.Lists.{In, all, any, keep, distinct}
 use Rattle.rules.proofs.Decides.{and-both, both-and}
-use Rattle.routes.specs.Paths.{In}
-use Rattle.routes.proofs.Cases.{on-test}
-use Rattle.routes.proofs.Graphs.{in-keep}
-use Rattle.routes.proofs.Accepted.{none-any, not-not, neither}
+use Rattle.rules.proofs.Cases.{on-test, not-not, neither}
+use Rattle.rules.proofs.Members.{in-keep, none-any}
 
-pub any-in : (u : ℕ) (xs : List ℕ) → any (eqb u) xs ≡ true → In u xs
+pub any-same : (u : ℕ) (xs : List ℕ) → any (eqb u) xs ≡ true → In u xs
 unfolding any
-any-in u [] e = absurd (false≢true e)
-any-in u (x ∷ xs) e =
+any-same u [] e = absurd (false≢true e)
+any-same u (x ∷ xs) e =
     on-test (eqb u x)
     (λ t. List·Memᴰ·head (eqb-true u x t))
-    (λ t. List·Memᴰ·tail (any-in u xs (rw t at e)))
+    (λ t. List·Memᴰ·tail (any-same u xs (rw t at e)))
 
 -- those other than k
 abbrev others : ℕ → List ℕ → List ℕ
@@ -47,7 +45,7 @@ others-distinct k (x ∷ xs) e =
     still x xs e =
         on-test (any (eqb x) (others k xs))
         (λ t.
-        let m = any-in x (others k xs) t in
+        let m = any-same x (others k xs) t in
         absurd
         (true≢false
         (sym (eq-eqb x x refl) ∙ none-any (eqb x) xs (not-true (any (eqb x) xs) e) x (in-keep _ x xs m .0))))
@@ -86,7 +84,7 @@ distinct-more u xs t e = rw t e
 pub every-below : (n : ℕ) (xs : List ℕ) → distinct xs ≡ true → ((x : ℕ) → In x xs → x < n) → length xs ≡ n → (u : ℕ) → u < n → In u xs
 every-below n xs e h long u below =
     on-test (any (eqb u) xs)
-    (λ t. any-in u xs t)
+    (λ t. any-same u xs t)
     (λ t.
     absurd
     (omega (
