@@ -1,30 +1,21 @@
 -- What a caller may want to know of a heap, besides what its functions promise.
-use mathlib.Core.Bool.{Bool, true, false}
 use mathlib.Core.List.{List, [], _∷_}
 use mathlib.Core.Path.{_≡_, refl, sym, ap, _∙_}
 use Prim.Native.Nat.{ℕ, suc, _+_, _*_, _-_, _<_, _≤_}
 use native.Mathlib.Omega.{arith}
 use lib.ListN.{length, drop}
-use Rattle.rules.specs.Heap.{Item, leaves-first, push}
+use Rattle.rules.specs.Heap.{Item, push}
+use Rattle.rules.proofs.Heaps.{push-length}
 use Rattle.heap.specs.Items.{item, items, sorted}
 use Rattle.heap.specs.Shape.{at, Ordered}
 use Rattle.heap.specs.Promises.{Holds, Pushed, Popped}
-use Rattle.heap.proofs.Order.{push-nil, push-first, push-later}
 use Rattle.heap.proofs.Stride.{length-items, at-items}
 use Rattle.heap.proofs.Ends.{root-out}
-
-pub length-push : (x : Item) (q : List Item) → length (push x q) ≡ suc (length q)
-length-push x [] = ap length (push-nil x)
-length-push x (y ∷ q) = go (leaves-first x y) refl (length-push x q)
-  where
-    go : (t : Bool) → leaves-first x y ≡ t → length (push x q) ≡ suc (length q) → length (push x (y ∷ q)) ≡ suc (suc (length q))
-    go true p ih = ap length (push-first x y q p)
-    go false p ih = ap length (push-later x y q p) ∙ ap suc ih
 
 pub length-sorted : (l : List Item) → length (sorted l) ≡ length l
 unfolding sorted
 length-sorted [] = refl
-length-sorted (x ∷ l) = length-push x (sorted l) ∙ ap suc (length-sorted l)
+length-sorted (x ∷ l) = push-length x (sorted l) ∙ ap suc (length-sorted l)
 
 -- a list that begins with x is x and the rest
 front : {q r : List Item} {x : Item} → q ≡ x ∷ r → q ≡ x ∷ drop 1 q

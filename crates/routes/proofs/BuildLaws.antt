@@ -26,6 +26,10 @@ use Rattle.routes.proofs.BuiltTables.{no-arc, no-raw, no-level, no-entr
 use Rattle.routes.proofs.BuildHalf.{neighbours-distinct}
 use Rattle.routes.proofs.Refused.{Went, build-went, build-half}
 
+map-twice : {A B C : Type 0} (f : A → B) (g : B → C) (xs : List A) → map g (map f xs) ≡ map (λ x. g (f x)) xs
+map-twice f g [] = refl
+map-twice f g (x ∷ xs) = ap (λ ys. g (f x) ∷ ys) (map-twice f g xs)
+
 module _ (c : BuildCall) (ok : AcceptedBuild c) (small : (w : ℕ) → In w (c .links .weights) → w ≤ maxLinkWeight)
     (b : Building) (done : Contracted c ok small b) where
   abbrev tables : Hierarchy
@@ -61,3 +65,36 @@ module _ (c : BuildCall) (ok : AcceptedBuild c) (small : (w : ℕ) → In w (c .
       let lev = level-is c ok small b done (getD (b .levels) r no-level) (at .1) in
       rw (rank-neighbours s r h)
       (neighbours-distinct s (getD (b .levels) r no-level .node) (arcs-of s (getD (b .levels) r no-level)) (lev .apart s) (lev .own s))
+
+-- What every build that answers 0 gives, whoever asks.
+module _ (c : BuildCall) (small : (w : ℕ) → In w (c .links .weights) → w ≤ maxLinkWeight) (zero : build c .number ≡ 0) where
+  built : (ok : AcceptedBuild c) × (b : Building) × Contracted c ok small b × (build c .hierarchy ≡ finish-contraction c (b .levels))
+  built =
+      let w = build-went c small zero in
+      let ok = accepted-build c (w .accepted) in
+      (ok, w .building, contraction-went c ok small (w .building) (w .contracts), w .tables)
+
+  -- no query on its tables is refused with 20
+  pub build-passes : check-refusal (c .nodes) (build c .hierarchy) ≡ 0
+  unfolding check-refusal check-rows first-met
+  build-passes = rw (tables-decided (c .nodes) (build c .hierarchy) .1 (build-half c small zero .rules), first-met)
+
+  pub ranks-inverse : (r : ℕ) → r < c .nodes → rank (build c .hierarchy) (getD (c .order) r 0) ≡ r
+  ranks-inverse r h =
+      let ok = built .0 in
+      let b = built .1 in
+      let done = built .2 in
+      rw (built .3)
+        (rank-is c ok small b done (getD (c .order) r 0)
+          (ok .order-below _ (getD-in (c .order) r 0 (omega (arith, ok .order-length)))) ∙
+          rank-at c ok small b done r h)
+
+  pub no-neighbour-twice : (s : Side) (v : ℕ) → v < c .nodes → distinct (map (λ e. e .neighbour) (entries (build c .hierarchy) s v)) ≡ true
+  unfolding entries
+  no-neighbour-twice s v h =
+      let ok = built .0 in
+      let b = built .1 in
+      let done = built .2 in
+      rw (map-twice (entry (table (build c .hierarchy) s)) (λ e. e .neighbour) (places (table (build c .hierarchy) s) (rank (build c .hierarchy) v)), built .3)
+        (once c ok small b done s (rank (finish-contraction c (b .levels)) v)
+          (omega (arith, rank-is c ok small b done v h, ranked c ok small v h, ok .order-length)))
