@@ -85,9 +85,9 @@ module _ (c : BuildCall) (small : (w : ℕ) → In w (c .links .weights) → w �
       let b = built .1 in
       let done = built .2 in
       rw (built .3)
-        (rank-is c ok small b done (getD (c .order) r 0)
-          (ok .order-below _ (getD-in (c .order) r 0 (omega (arith, ok .order-length)))) ∙
-          rank-at c ok small b done r h)
+      (rank-is c ok small b done (getD (c .order) r 0)
+      (ok .order-below _ (getD-in (c .order) r 0 (omega (arith, ok .order-length)))) ∙
+      rank-at c ok small b done r h)
 
   pub no-neighbour-twice : (s : Side) (v : ℕ) → v < c .nodes → distinct (map (λ e. e .neighbour) (entries (build c .hierarchy) s v)) ≡ true
   unfolding entries
@@ -96,5 +96,5 @@ module _ (c : BuildCall) (small : (w : ℕ) → In w (c .links .weights) → w �
       let b = built .1 in
       let done = built .2 in
       rw (map-twice (entry (table (build c .hierarchy) s)) (λ e. e .neighbour) (places (table (build c .hierarchy) s) (rank (build c .hierarchy) v)), built .3)
-        (once c ok small b done s (rank (finish-contraction c (b .levels)) v)
-          (omega (arith, rank-is c ok small b done v h, ranked c ok small v h, ok .order-length)))
+      (once c ok small b done s (rank (finish-contraction c (b .levels)) v)
+      (omega (arith, rank-is c ok small b done v h, ranked c ok small v h, ok .order-length)))

@@ -25,4 +25,5 @@ pub mod QueryLaws
 pub mod QueryChains
 pub mod QueryLeast
 pub mod QueryHalf
+pub mod ProgramFuel
 pub mod ThirdDemand

@@ -44,5 +44,5 @@ unfolding
     Program.word-too-long Program.digits Program.decimal Program.line Program.refused-line Program.built-line
     Program.route-line Program.bad-record Program.record-length Program.kind-of Program.whole Program.u16-at
     Program.u32-at Program.link-at Program.blank-table Program.program-call Program.query-call Program.after-build
-    Program.at-limit Program.answer-line Program.no-order-yet Program.act Program.at-end Program.lines Program.program
+    Program.at-limit Program.answer-line Program.no-order-yet Program.act Program.at-end Program.follow Program.lines Program.program
 computing = tt

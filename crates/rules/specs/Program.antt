@@ -192,20 +192,20 @@ at-end waiting at = bad-record at
 at-end (gathering n ls order) at = bad-record at
 at-end (answering n h) at = []
 
+-- what a record at an offset writes, and what the rest writes after it
+unfoldable pub follow : Next → ℕ → (Phase → List ℕ) → List ℕ
+follow (goes-on written p) at rest = written ++ rest p
+follow (stops written) at rest = written
+follow misplaced at rest = bad-record at
+
 -- From a byte offset on, in a phase. Each record takes some bytes, so their number is fuel enough.
 unfoldable pub lines : ℕ → ℕ → Phase → List ℕ → List ℕ
 lines zero at p bs = at-end p at
 lines (suc fuel) at p [] = at-end p at
 lines (suc fuel) at p (b ∷ bs) =
+    let n = record-length (kind-of (b ∷ bs)) in
     elim (whole (b ∷ bs)) [
-      | true ↦
-          elim (act p (b ∷ bs)) [
-            | goes-on written p′ ↦
-                written ++
-                lines fuel (at + record-length (kind-of (b ∷ bs))) p′ (drop (record-length (kind-of (b ∷ bs))) (b ∷ bs))
-            | stops written ↦ written
-            | misplaced ↦ bad-record at
-          ]
+      | true ↦ follow (act p (b ∷ bs)) at (λ q. lines fuel (at + n) q (drop n (b ∷ bs)))
       | false ↦ bad-record at
     ]
 

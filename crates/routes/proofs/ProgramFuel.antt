@@ -1,0 +1,46 @@
+-- The record program's fuel never runs out: a number has fewer digits than itself and one, and a record has a byte.
+use mathlib.Core.Path.{_≡_, refl, ap, fun-ext}
+use mathlib.Core.Bool.{Bool, true, false, _&&_}
+use mathlib.Core.List.{List, [], _∷_, _++_}
+use Prim.Native.Nat.{ℕ, zero, suc, _+_, _/_, _%_, _-_, _≤_, _<_}
+use native.Mathlib.Omega.{arith}
+use lib.Dec.{eqb, ltb, leb}
+use lib.ListN.{length, getD, drop, length-drop}
+use borrow.Author.Tests.{ltb-false, leb-true}
+use Rattle.rules.specs.Program.{digits, Phase, Next, act, follow, whole, record-length, kind-of, lines}
+use Rattle.rules.proofs.Cases.{on-test}
+use Rattle.rules.proofs.Decides.{and-both}
+
+pub digits-enough : (k n : ℕ) → n < k → digits k n ≡ digits (suc k) n
+unfolding digits
+digits-enough zero n h = absurd (omega arith)
+digits-enough (suc k) n h =
+    on-test (ltb n 10)
+    (λ t. rw (t, digits))
+    (λ t.
+    rw (t, digits)
+    (ap (λ ds. ds ++ ((0x30 + (n % 10)) ∷ [])) (digits-enough k (n / 10) (omega (arith, ltb-false n 10 t)))))
+
+-- a whole record takes at least a byte
+whole-takes : (bs : List ℕ) → whole bs ≡ true → 1 ≤ record-length (kind-of bs)
+unfolding whole
+whole-takes bs e =
+    let first = eqb (getD bs 0 0) 0x6E && eqb (getD bs 1 0) 0x74 in
+    let takes = leb 1 (record-length (kind-of bs)) in
+    leb-true 1 (record-length (kind-of bs)) (and-both first takes (and-both (first && takes) (leb (record-length (kind-of bs)) (length bs)) e .0) .1)
+
+pub lines-enough : (k at : ℕ) (p : Phase) (bs : List ℕ) → length bs ≤ k → lines k at p bs ≡ lines (suc k) at p bs
+unfolding lines
+lines-enough zero at p [] h = refl
+lines-enough zero at p (b ∷ bs) h = absurd (omega arith)
+lines-enough (suc k) at p [] h = refl
+lines-enough (suc k) at p (b ∷ bs) h =
+    let n = record-length (kind-of (b ∷ bs)) in
+    on-test (whole (b ∷ bs))
+    (λ t.
+    rw (t, lines)
+    (ap (follow (act p (b ∷ bs)) at)
+    (fun-ext
+    (λ q.
+    lines-enough k (at + n) q (drop n (b ∷ bs)) (omega (arith, length-drop n (b ∷ bs), whole-takes (b ∷ bs) t))))))
+    (λ t. rw (t, lines))
