@@ -11,17 +11,12 @@ use borrow.Author.Tests.{eqb-true, eqb-false, eq-eqb, ne-eqb, ltb-true, ltb-fals
 use Rattle.rules.specs.Numbers.{maxNodes, maxLinks}
 use Rattle.rules.specs.Lists.{In, all, any, distinct}
 use Rattle.rules.specs.Columns.{Links, Link, linkList, Table, Hierarchy, equally-long, EquallyLong}
-use Rattle.rules.specs.Refusals.{Row, row, first-met, BuildCall, names-none-above, loop, goes-before, ascending, columns-fit, table-short, lent-short, graph-rows, order-rows, build-refusal}
+use Rattle.rules.specs.Refusals.{BuildCall, names-none-above, loop, goes-before, ascending, columns-fit, table-short, lent-short, graph-rows, order-rows, build-refusal}
 use Rattle.rules.proofs.Decides.{and-both, or-either, left-or, right-or}
 use Rattle.rules.proofs.TablesDecided.{columns-decided}
+use Rattle.rules.proofs.Rows.{not-met}
 use Rattle.rules.proofs.Cases.{on-test, not-not, neither}
 use Rattle.rules.proofs.Members.{all-each, none-any}
-
--- the first row was not met, nor any other
-pub not-met : (n : ℕ) (b : Bool) (rs : List Row) → first-met (row (suc n) b ∷ rs) ≡ 0 → (b ≡ false) × (first-met rs ≡ 0)
-unfolding first-met
-not-met n true rs e = absurd (omega (arith, e))
-not-met n false rs e = (refl, e)
 
 -- Links go before one another by (tail, head).
 abbrev pub Before : Link → Link → Type 0

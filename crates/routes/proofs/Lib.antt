@@ -27,3 +27,4 @@ pub mod QueryLeast
 pub mod QueryHalf
 pub mod ProgramFuel
 pub mod ThirdDemand
+pub mod Demands

@@ -16,21 +16,12 @@ use Rattle.rules.specs.Refusals.{Row, first-met, QueryCall, ends-fit, offset-fi
 use Rattle.rules.specs.Query.{End, zip-ends, endList, counts, Best, coincide, coincide-all, first-step, Half, untouched, enter, query-fuel, entered, searched}
 use Rattle.rules.proofs.Decides.{and-both, or-either}
 use Rattle.rules.proofs.TablesDecided.{tables-decided}
-use Rattle.rules.proofs.Cases.{on-test, not-both}
+use Rattle.rules.proofs.Cases.{on-test, not-both, neither}
 use Rattle.rules.proofs.Members.{all-each}
+use Rattle.rules.proofs.Rows.{not-met}
 use Rattle.routes.proofs.QueryOffers.{weight-at}
 use Rattle.routes.proofs.QueryState.{EndRules, Sound, first-sound, enter-unsettled}
 use Rattle.routes.proofs.QueryTurns.{Met, no-best, improve-cases, Both, rounds-keep, rounds-finish}
-
-neither : (a b : Bool) → (a || b) ≡ false → (a ≡ false) × (b ≡ false)
-neither true b e = absurd (true≢false e)
-neither false b e = (refl, e)
-
--- no row is met: not the first, and none of the rest
-row-passed : (r : Row) (rs : List Row) → (r .number ≡ 0 → ⊥) → first-met (r ∷ rs) ≡ 0 → (r .met ≡ false) × (first-met rs ≡ 0)
-unfolding first-met
-row-passed r rs some e =
-    on-test (r .met) (λ t. absurd (some (rw (t, first-met) at e))) (λ f. (f, rw (f, first-met) at e))
 
 zipped-in : (vs os : List ℕ) (e : End) → In e (zip-ends vs os) → In (e .node) vs × In (e .offset) os
 unfolding zip-ends
@@ -92,11 +83,11 @@ pub record Accepted (q : QueryCall) : Type 0 where
 pub accepted : (q : QueryCall) → query-refusal q ≡ 0 → Accepted q
 unfolding query-refusal check-rows end-rows
 accepted q e =
-    let p20 = row-passed _ _ (λ z. omega arith) e in
-    let p21 = row-passed _ _ (λ z. omega arith) (p20 .1) in
-    let p22 = row-passed _ _ (λ z. omega arith) (p21 .1) in
-    let p23 = row-passed _ _ (λ z. omega arith) (p22 .1) in
-    let p24 = row-passed _ _ (λ z. omega arith) (p23 .1) in
+    let p20 = not-met 19 _ _ e in
+    let p21 = not-met 20 _ _ (p20 .1) in
+    let p22 = not-met 21 _ _ (p21 .1) in
+    let p23 = not-met 22 _ _ (p22 .1) in
+    let p24 = not-met 23 _ _ (p23 .1) in
     let fit = and-both (ends-fit (q .sources)) (ends-fit (q .targets)) (not-false _ (p21 .0)) in
     let below = and-both (all (λ v. ltb v (q .nodes)) (q .sources .nodes)) (all (λ v. ltb v (q .nodes)) (q .targets .nodes)) (not-false _ (p22 .0)) in
     let fits = and-both (all offset-fits (q .sources .offsets)) (all offset-fits (q .targets .offsets)) (not-false _ (p23 .0)) in

@@ -53,7 +53,7 @@ module _ (n : ℕ) (h : Hierarchy) (rules : TableRules n h) (s : Side) (es : Lis
       rw (a .leads-to) at
       (place-entry n h rules s (x .label v .parent) (k .settled (x .label v .parent) (a .parent-settled) .node-below) (x .label v .via) (a .place) .neighbour-higher)
 
-  -- (d) Ranks rise from parent to child, so fuel above a node's rank is as good as any other.
+  -- Ranks rise from parent to child, so fuel above a node's rank is as good as any other.
   pub climb-enough : (f g v : ℕ) → rank h v < f → rank h v < g → climb f x v ≡ climb g x v
   climb-enough zero g v hf hg = absurd (omega arith)
   climb-enough (suc f) zero v hf hg = absurd (omega arith)

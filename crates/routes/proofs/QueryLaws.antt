@@ -1,5 +1,5 @@
 -- Bounds for the code, at every step of a query on any tables that pass the table rules: no sum of labels comes near the
--- mark (a), and no heap outgrows its room (b). What holds in the midst of relaxing is in QueryTaken.
+-- mark, and no heap outgrows its room. What holds in the midst of relaxing is in QueryTaken.
 use mathlib.Core.List.{List}
 use Prim.Native.Nat.{ℕ, suc, _+_, _*_, _≤_, _<_}
 use native.Mathlib.Omega.{arith}

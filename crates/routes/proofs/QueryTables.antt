@@ -102,8 +102,12 @@ module _ (h : Hierarchy) where
   unfolding unpack
   unpack-plain fuel s e f = rw (f, unpack)
 
+  pub unpacked-plain : (s : Side) (e : ℕ) → is-shortcut (entry (table h s) e) ≡ false → unpacked h s e ≡ tail-of s (entry (table h s) e) ∷ []
+  unfolding unpacked
+  unpacked-plain s e f = unpack-plain _ s e f
+
 module _ (n : ℕ) (h : Hierarchy) (rules : TableRules n h) where
-  -- (e) Fuel above the rank of the base is as good as any other.
+  -- Fuel above the rank of the base is as good as any other.
   pub unpack-enough : (f g : ℕ) (s : Side) (e : ℕ) → e < used n (table h s) → rank h (entry (table h s) e .base) < f →
       rank h (entry (table h s) e .base) < g → unpack h f s e ≡ unpack h g s e
   unfolding table
@@ -122,7 +126,7 @@ module _ (n : ℕ) (h : Hierarchy) (rules : TableRules n h) where
       sym (unpack-shortcut h g s e t))
       (λ t. unpack-plain h f s e t ∙ sym (unpack-plain h g s e t))
 
-  -- (e) what an entry opens into, without fuel
+  -- what an entry opens into, without fuel
   pub unpacked-shortcut : (s : Side) (e : ℕ) → e < used n (table h s) → is-shortcut (entry (table h s) e) ≡ true →
       unpacked h s e ≡ unpacked h backward (entry (table h s) e .in-number) ++ unpacked h forward (entry (table h s) e .out-number)
   unfolding unpacked table
@@ -134,7 +138,3 @@ module _ (n : ℕ) (h : Hierarchy) (rules : TableRules n h) where
       ap₂ (λ xs ys. xs ++ ys)
       (unpack-enough _ _ backward (entry (table h s) e .in-number) (o .in-used) (omega (arith, low)) (omega arith))
       (unpack-enough _ _ forward (entry (table h s) e .out-number) (o .out-used) (omega (arith, low, same)) (omega arith))
-
-  pub unpacked-plain : (s : Side) (e : ℕ) → is-shortcut (entry (table h s) e) ≡ false → unpacked h s e ≡ tail-of s (entry (table h s) e) ∷ []
-  unfolding unpacked
-  unpacked-plain s e f = unpack-plain h _ s e f

@@ -53,11 +53,11 @@ module _ (n : ℕ) (h : Hierarchy) (rules : TableRules n h) (s : Side) (es : Lis
       let r = k .items i (List·Memᴰ·head refl) in
       record { node-below = r .node-below; above = r .above; label-below = r .label-below; bounded = r .bounded }
 
-  -- (a) no item is near the mark
+  -- no item is near the mark
   pub item-at-most : i .weight ≤ maxWeight * maxNodes
   item-at-most = omega (arith, taken-item .bounded, rules .ranks-below (i .node) (taken-item .node-below), rules .nodes)
 
-  -- (c) nothing below what was last taken out ever leaves
+  -- nothing below what was last taken out ever leaves
   pub pops-never-fall : floor ≤ i .weight
   pops-never-fall = taken-item .above
 
@@ -147,7 +147,7 @@ module _ (n : ℕ) (h : Hierarchy) (rules : TableRules n h) (s : Side) (es : Lis
         adds-up = refl;
       }
 
-  -- (a) no sum that is offered is near the mark
+  -- no sum that is offered is near the mark
   pub offer-at-most : (e : ℕ) → In e (places (table h s) (rank h (i .node))) → i .weight + entry (table h s) e .weight ≤ maxWeight * maxNodes
   offer-at-most e m =
       let f = fair-entry e m in
@@ -242,7 +242,7 @@ module _ (n : ℕ) (h : Hierarchy) (rules : TableRules n h) (s : Side) (es : Lis
               (used n (table h s)),
         )
 
-    -- (b) in the midst of relaxing there is room for one item more
+    -- in the midst of relaxing there is room for one item more
     pub relaxing-room : (ps rest : List ℕ) → ps ++ rest ≡ places (table h s) (rank h (i .node)) →
         length (relax (table h s) i ps (with-heap q x) .heap) < length es + used n (table h s)
     unfolding with-heap
@@ -441,7 +441,7 @@ module _ (n : ℕ) (h : Hierarchy) (rules : TableRules n h) (s : Side) (es : Lis
       unfolding settle mark-settled with-heap
       settle-falls v = falls after-settle v
 
-      -- (c) once settled, a node keeps its label
+      -- once settled, a node keeps its label
       pub settle-stays : (v : ℕ) → x .settled v ≡ true → settle h s i (with-heap q x) .label v ≡ x .label v
       unfolding settle mark-settled with-heap
       settle-stays v t =

@@ -75,7 +75,7 @@ improve-low w v b =
       | inr old ↦ rw (old .1) (omega (arith, old .0), omega arith)
     ]
 
--- What is left of the search `before` after a turn that faces y, when the best was b. (c) The floor never falls, and a node
+-- What is left of the search `before` after a turn that faces y, when the best was b. The floor never falls, and a node
 -- that is settled stays so, with its label.
 pub record AfterTurn (n : ℕ) (h : Hierarchy) (s : Side) (es : List End) (floor : ℕ) (y : Half) (b : Best) (before : Half) (t : Turned) : Type 0 where
   pub last : ℕ
@@ -297,7 +297,7 @@ module _ (n : ℕ) (h : Hierarchy) (rules : TableRules n h) (ss ts : List End) w
       empty [] e = refl
       empty (i ∷ p) e = absurd (omega arith)
 
-  -- (b) fuel for all that may be taken out never runs out
+  -- fuel for all that may be taken out never runs out
   pub rounds-finish : (fuel : ℕ) (q : Halves) → Both n h ss ts q → both-loads n h q ≤ fuel →
       (rounds h fuel q .fwd .heap ≡ []) × (rounds h fuel q .bwd .heap ≡ [])
   unfolding rounds

@@ -2,3 +2,4 @@
 pub mod Paths
 pub mod Demand
 pub mod Promise
+pub mod Demands

@@ -8,4 +8,5 @@ pub mod Positions
 pub mod Pigeonhole
 pub mod Prefixes
 pub mod Heaps
+pub mod Rows
 pub mod Steps
