@@ -3,3 +3,4 @@ pub mod Paths
 pub mod Demand
 pub mod Promise
 pub mod Demands
+pub mod Unbuilt
