@@ -1,21 +1,21 @@
 -- What an accepted call gives: each row that was not met.
-use mathlib.Core.Path.{_≡_, refl, sym, _∙_, ap}
+use mathlib.Core.Path.{_≡_, refl, _∙_}
 use mathlib.Core.Logic.{_⊎_, inl, inr}
-use mathlib.Core.Bool.{Bool, true, false, not, _&&_, _||_, true≢false, false≢true}
-use mathlib.Core.List.{List, [], _∷_, _++_, map, List·Memᴰ·head, List·Memᴰ·tail, List·Memᴰ·cases-cons, List·Memᴰ·not-nil}
-use Prim.Native.Nat.{ℕ, zero, suc, _+_, _≤_, _<_}
+use mathlib.Core.Bool.{true, false, not}
+use mathlib.Core.List.{List, [], _∷_, List·Memᴰ·cases-cons, List·Memᴰ·not-nil}
+use Prim.Native.Nat.{ℕ, suc, _≤_, _<_}
 use native.Mathlib.Omega.{arith}
-use lib.Dec.{eqb, ltb, leb}
-use lib.ListN.{length, getD}
-use borrow.Author.Tests.{eqb-true, eqb-false, eq-eqb, ne-eqb, ltb-true, ltb-false, leb-true, not-true}
-use Rattle.rules.specs.Numbers.{maxNodes, maxLinks}
-use Rattle.rules.specs.Lists.{In, all, any, distinct}
-use Rattle.rules.specs.Columns.{Links, Link, linkList, Table, Hierarchy, equally-long, EquallyLong}
-use Rattle.rules.specs.Refusals.{BuildCall, names-none-above, loop, goes-before, ascending, columns-fit, table-short, lent-short, graph-rows, order-rows, build-refusal}
-use Rattle.rules.proofs.Decides.{and-both, or-either, left-or, right-or}
+use lib.Dec.{eqb, ltb}
+use lib.ListN.{length}
+use borrow.Author.Tests.{eqb-true, eqb-false, ltb-true, ltb-false}
+use Rattle.rules.specs.Numbers.{maxNodes}
+use Rattle.rules.specs.Lists.{In, distinct}
+use Rattle.rules.specs.Columns.{Link, linkList, Table, equally-long, EquallyLong}
+use Rattle.rules.specs.Refusals.{BuildCall, names-none-above, loop, goes-before, ascending, table-short, lent-short, graph-rows, order-rows, build-refusal}
+use Rattle.rules.proofs.Decides.{and-both, or-either}
 use Rattle.rules.proofs.TablesDecided.{columns-decided}
 use Rattle.rules.proofs.Rows.{not-met}
-use Rattle.rules.proofs.Cases.{on-test, not-not, neither}
+use Rattle.rules.proofs.Cases.{not-not, neither}
 use Rattle.rules.proofs.Members.{all-each, none-any}
 
 -- Links go before one another by (tail, head).

@@ -1,36 +1,33 @@
 -- What a build promises a query, proved of every build that was not refused.
-use mathlib.Core.Path.{_≡_, refl, sym, _∙_, ap, ap₂, subst}
-use mathlib.Core.Logic.{_⊎_, inl, inr}
-use mathlib.Core.Bool.{Bool, true, false, not, _&&_, true≢false, false≢true}
-use mathlib.Core.List.{List, [], _∷_, map, List·Memᴰ·head, List·Memᴰ·tail, List·Memᴰ·cases-cons, List·Memᴰ·not-nil}
-use Prim.Native.Nat.{ℕ, zero, suc, _+_, _-_, _*_, _≤_, _<_, zero-le}
+use mathlib.Core.Path.{_≡_, sym, _∙_, ap}
+use mathlib.Core.Logic.{inl, inr}
+use mathlib.Core.Bool.{true, false, true≢false}
+use mathlib.Core.List.{List, map}
+use Prim.Native.Nat.{ℕ, suc, _*_, _≤_, _<_}
 use native.Mathlib.Omega.{arith}
 use native.Mathlib.Nat.{mul-le-mul, le-trans}
-use lib.Dec.{eqb}
-use lib.ListN.{length, getD, length-map}
-use borrow.Author.Tests.{eqb-true, eqb-false, eq-eqb, ne-eqb}
-use Rattle.rules.specs.Numbers.{maxNodes, maxLinkWeight, invalid}
-use Rattle.rules.specs.Lists.{In, any, distinct, flat-map}
-use Rattle.rules.specs.Columns.{Links, Link, linkList, Entry, Hierarchy, Side, forward, backward, table, entry, rank, begin, places}
-use Rattle.rules.specs.TableRules.{tail-of, head-of, used, TableRules}
-use Rattle.rules.specs.Refusals.{BuildCall, build-refusal}
-use Rattle.rules.specs.Graph.{Arc, joins}
-use Rattle.rules.specs.Build.{Step, went, refused, Level, arcs-of, neighbour-of, raw, level-raws, raws, Building, place, finish, finish-contraction, contraction, built, unless-refused, build}
+use lib.ListN.{length, length-map}
+use borrow.Author.Tests.{ne-eqb}
+use Rattle.rules.specs.Numbers.{maxLinkWeight, invalid}
+use Rattle.rules.specs.Lists.{In, distinct, flat-map}
+use Rattle.rules.specs.Columns.{linkList, Entry, Hierarchy, Side, forward, backward, table, entry, rank, begin, places}
+use Rattle.rules.specs.TableRules.{tail-of, head-of, used}
+use Rattle.rules.specs.Refusals.{BuildCall}
+use Rattle.rules.specs.Graph.{Arc}
+use Rattle.rules.specs.Build.{Level, arcs-of, neighbour-of, raw, level-raws, raws, Building, place, finish-contraction}
 use Rattle.rules.specs.Unpack.{is-shortcut}
-use Rattle.rules.proofs.Cases.{on-test}
-use Rattle.rules.proofs.Members.{getD-in, in-getD, in-map}
+use Rattle.rules.proofs.Members.{in-map}
 use Rattle.rules.proofs.Pigeonhole.{at-most}
 use Rattle.rules.proofs.Prefixes.{prefix, sizes, locate, flat-length, flat-at-most, range-in}
-use Rattle.routes.specs.Paths.{Edges, Path, stay, step}
 use Rattle.routes.specs.Demand.{Linked}
-use Rattle.routes.specs.Promise.{Entries, UpDown, Promise}
+use Rattle.routes.specs.Promise.{Entries, Promise}
 use Rattle.routes.proofs.Paths.{Lighter, lighter-path}
-use Rattle.routes.proofs.Levels.{Apart, rank-of, ArcOk, LevelOk, own-end}
-use Rattle.routes.proofs.Runs.{LevelEdges, LevelUpDown}
-use Rattle.routes.proofs.Accepted.{AcceptedBuild, accepted-build}
+use Rattle.routes.proofs.Levels.{Apart, rank-of, own-end}
+use Rattle.routes.proofs.Runs.{LevelEdges}
+use Rattle.routes.proofs.Accepted.{AcceptedBuild}
 use Rattle.routes.proofs.Room.{codes-distinct}
-use Rattle.routes.proofs.Starts.{Contracted, contraction-went}
-use Rattle.routes.proofs.BuiltTables.{ends-by-side, level-size, tables-rule, L, n, h, links, opened, At, within-rank, before-end, used-is, level-is, level-count, ranked-below, node-below, finish-keeps, opens, entry-ends, found-entry, starts-at, begin-is, rank-is, entry-is, raw-at, starts-next}
+use Rattle.routes.proofs.Starts.{Contracted}
+use Rattle.routes.proofs.BuiltTables.{ends-by-side, level-size, tables-rule, links, At, within-rank, used-is, level-is, level-count, ranked-below, node-below, finish-keeps, opens, entry-ends, found-entry, begin-is, rank-is}
 
 -- arcs of one end in common have no neighbour twice
 pub neighbours-distinct : (s : Side) (v : ℕ) (xs : List Arc) → Apart xs → ((x : Arc) → In x xs → own-end s x ≡ v) → distinct (map (neighbour-of s) xs) ≡ true

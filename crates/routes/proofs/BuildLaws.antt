@@ -1,30 +1,25 @@
 -- Of every build that was not refused: its tables pass the table check, its ranks are the order's inverse, and no
 -- neighbour stands twice among a node's entries.
 use mathlib.Core.Path.{_≡_, refl, sym, _∙_, ap}
-use mathlib.Core.Bool.{Bool, true, false, not}
+use mathlib.Core.Bool.{true}
 use mathlib.Core.List.{List, [], _∷_, map}
-use Prim.Native.Nat.{ℕ, suc, _+_, _-_, _≤_, _<_}
+use Prim.Native.Nat.{ℕ, suc, _+_, _≤_, _<_}
 use native.Mathlib.Omega.{arith}
-use lib.Dec.{eqb}
 use lib.ListN.{length, getD, length-map}
 use lib.Seq.{ext-getD}
 use Rattle.rules.specs.Numbers.{maxLinkWeight}
 use Rattle.rules.specs.Lists.{In, distinct, range}
-use Rattle.rules.specs.Columns.{Links, linkList, Entry, Hierarchy, Side, table, entry, rank, begin, places, entries}
-use Rattle.rules.specs.TableRules.{table-test}
+use Rattle.rules.specs.Columns.{Hierarchy, Side, table, entry, rank, begin, places, entries}
 use Rattle.rules.specs.Refusals.{BuildCall, first-met, check-rows, check-refusal}
-use Rattle.rules.specs.Graph.{Arc}
-use Rattle.rules.specs.Build.{arcs-of, neighbour-of, raw, raws, Building, finish-contraction, build}
+use Rattle.rules.specs.Build.{arcs-of, neighbour-of, raw, Building, finish-contraction, build}
 use Rattle.rules.proofs.TablesDecided.{tables-decided}
 use Rattle.rules.proofs.Members.{getD-in}
 use Rattle.rules.proofs.Prefixes.{map-at, range-length, range-at}
-use Rattle.routes.specs.Promise.{Promise}
-use Rattle.routes.proofs.Levels.{rank-of}
 use Rattle.routes.proofs.Accepted.{AcceptedBuild, accepted-build}
 use Rattle.routes.proofs.Starts.{Contracted, ranked, contraction-went}
-use Rattle.routes.proofs.BuiltTables.{no-arc, no-raw, no-level, no-entry, finish-keeps, L, begin-is, starts-at, starts-next, entry-is, raw-at, before-end, level-at, level-is, rank-is, rank-at}
+use Rattle.routes.proofs.BuiltTables.{no-arc, no-level, finish-keeps, begin-is, starts-at, starts-next, entry-is, raw-at, before-end, level-at, level-is, rank-is, rank-at}
 use Rattle.routes.proofs.BuildHalf.{neighbours-distinct}
-use Rattle.routes.proofs.Refused.{Went, build-went, build-half}
+use Rattle.routes.proofs.Refused.{build-went, build-half}
 
 map-twice : {A B C : Type 0} (f : A → B) (g : B → C) (xs : List A) → map g (map f xs) ≡ map (λ x. g (f x)) xs
 map-twice f g [] = refl

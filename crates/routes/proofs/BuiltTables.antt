@@ -1,18 +1,18 @@
 -- The tables of a build: what each place holds, and that the table rules hold.
 use mathlib.Core.Path.{_≡_, refl, sym, _∙_, ap, ap₂, subst}
-use mathlib.Core.Logic.{_⊎_, inl, inr}
-use mathlib.Core.Bool.{Bool, true, false, not, _&&_, true≢false, false≢true}
-use mathlib.Core.List.{List, [], _∷_, _++_, map, append-nil, List·Memᴰ·head, List·Memᴰ·tail, List·Memᴰ·cases-cons, List·Memᴰ·not-nil, Memᴰ·cast}
-use Prim.Native.Nat.{ℕ, zero, suc, _+_, _-_, _*_, _≤_, _<_, zero-le}
+use mathlib.Core.Logic.{inl, inr}
+use mathlib.Core.Bool.{Bool, _&&_}
+use mathlib.Core.List.{List, [], _∷_, map, append-nil, Memᴰ·cast}
+use Prim.Native.Nat.{ℕ, suc, _+_, _-_, _≤_, _<_, zero-le}
 use native.Mathlib.Omega.{arith}
 use native.Mathlib.Nat.{zero-add, add-sub-of-le}
-use lib.Dec.{eqb, ltb, leb}
+use lib.Dec.{eqb}
 use lib.ListN.{length, getD, length-map}
-use borrow.Author.Tests.{eqb-true, eqb-false, eq-eqb, ne-eqb}
-use Rattle.rules.specs.Numbers.{maxNodes, maxWeight, maxLinkWeight, invalid, noWeight}
-use Rattle.rules.specs.Lists.{In, position, flat-map, over, range, distinct}
-use Rattle.rules.specs.Columns.{Links, Link, linkList, Table, Entry, Hierarchy, Side, forward, backward, table, entry, rank, begin, places, room, EquallyLong}
-use Rattle.rules.specs.TableRules.{tail-of, head-of, used, Fitting, Opens, EntryRules, SideRules, TableRules}
+use borrow.Author.Tests.{eqb-true, eq-eqb, ne-eqb}
+use Rattle.rules.specs.Numbers.{maxLinkWeight, invalid, noWeight}
+use Rattle.rules.specs.Lists.{In, position, over, range}
+use Rattle.rules.specs.Columns.{Link, linkList, Table, Entry, Hierarchy, Side, forward, backward, table, entry, rank, begin, room, EquallyLong}
+use Rattle.rules.specs.TableRules.{tail-of, head-of, used, Opens, EntryRules, SideRules, TableRules}
 use Rattle.rules.specs.Refusals.{BuildCall}
 use Rattle.rules.specs.Graph.{Arc}
 use Rattle.rules.specs.Build.{Level, Raw, arcs-of, neighbour-of, raw, level-raws, raws, Building, place, open-entry, finish, running-sums, starts-of, laid, finished, ranks-of, finish-contraction}
@@ -21,10 +21,8 @@ use Rattle.rules.proofs.Ranges.{Differ, distinct-decides}
 use Rattle.rules.proofs.Cases.{on-test}
 use Rattle.rules.proofs.Members.{getD-in, in-getD, in-map, map-in}
 use Rattle.rules.proofs.Positions.{position-below, position-passes, position-first, position-is, same-position}
-use Rattle.rules.proofs.Prefixes.{prefix, prefix-next, prefix-most, sums-at, sums-length, sizes, flat-length, flat-at, in-flat, flat-in, over-at, over-length, map-at, counted-at, counted-length, in-range, range-in, range-length, range-at}
-use Rattle.routes.specs.Paths.{Edges, Path, stay, step}
-use Rattle.routes.proofs.Levels.{rank-of, Later, Opened, Centred, ArcOk, LevelOk, own-end, apart-same}
-use Rattle.routes.proofs.Runs.{RunOk, Fit, LevelEdges, LevelUpDown}
+use Rattle.rules.proofs.Prefixes.{prefix, prefix-next, prefix-most, sums-at, sums-length, sizes, flat-length, flat-at, in-flat, flat-in, over-at, over-length, map-at, range-length, range-at}
+use Rattle.routes.proofs.Levels.{rank-of, Opened, LevelOk, own-end, apart-same}
 use Rattle.routes.proofs.Accepted.{AcceptedBuild}
 use Rattle.routes.proofs.Starts.{Contracted, ranked}
 

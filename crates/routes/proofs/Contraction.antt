@@ -1,24 +1,23 @@
 -- One contraction keeps distances: rules 3 and 4.
 use mathlib.Core.Path.{_≡_, refl, sym, _∙_, ap}
 use mathlib.Core.Logic.{_⊎_, inl, inr}
-use mathlib.Core.Bool.{Bool, true, false}
-use mathlib.Core.List.{List, [], _∷_, List·Memᴰ·head, List·Memᴰ·tail, List·Memᴰ·cases-cons, List·Memᴰ·not-nil, List·Memᴰ·eq-of-singleton, Memᴰ·cast}
-use Prim.Native.Nat.{ℕ, _+_, _≤_, _<_}
+use mathlib.Core.List.{List, [], _∷_, List·Memᴰ·head, List·Memᴰ·tail, List·Memᴰ·cases-cons, List·Memᴰ·not-nil, List·Memᴰ·eq-of-singleton}
+use Prim.Native.Nat.{ℕ, _+_, _≤_}
 use native.Mathlib.Omega.{arith}
 use native.Mathlib.Decide.{ℕ-discrete}
 use lib.Dec.{eqb, ltb, leb}
 use lib.ListN.{length}
-use borrow.Author.Tests.{eqb-true, eqb-false, ltb-false, leb-true, leb-false}
-use Rattle.rules.specs.Numbers.{noWeight, maxWeight}
+use borrow.Author.Tests.{eqb-true, eqb-false, ltb-false, leb-true}
+use Rattle.rules.specs.Numbers.{maxWeight}
 use Rattle.rules.specs.Graph.{Arc, outs, ins, addOrReduce, disconnect}
-use Rattle.rules.specs.Search.{Search, init, Found, find-max-weight}
-use Rattle.rules.specs.Build.{Step, went, refused, and-then, in-pool, Contracting, shortcut, add, unless-witness, ask, within-sum, pair, pairs-of, handle-shortcuts, contract-node}
+use Rattle.rules.specs.Search.{init, Found, find-max-weight}
+use Rattle.rules.specs.Build.{went, in-pool, Contracting, shortcut, add, unless-witness, ask, within-sum, pair, pairs-of, handle-shortcuts, contract-node}
 use Rattle.rules.specs.Lists.{In}
 use Rattle.rules.proofs.Cases.{on-test}
 use Rattle.rules.proofs.Steps.{went-same, refused-not-went, both-went}
-use Rattle.routes.specs.Paths.{Edges, Path, stay, step, Within}
+use Rattle.routes.specs.Paths.{Path, stay, step, Within}
 use Rattle.routes.proofs.Paths.{Lighter, lighter-refl, lighter-trans, lighter-within, within-join, within-more, edge-within, within-stay, said}
-use Rattle.routes.proofs.Graphs.{Arcs, Avoiding, avoiding-lighter, lighter-after-add, added-within, in-outs, in-ins, outs-in, ins-in, by-ends, disconnected-in}
+use Rattle.routes.proofs.Graphs.{Arcs, Avoiding, avoiding-lighter, lighter-after-add, added-within, in-ins, outs-in, ins-in, disconnected-in}
 use Rattle.routes.proofs.Searches.{Walked, walked-lighter, init-walked, search-walked, answer-walked}
 
 -- a graph that the pool holds

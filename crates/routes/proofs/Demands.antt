@@ -1,32 +1,29 @@
 -- The page of demands, proved.
 use mathlib.Core.Path.{_≡_, refl, sym, _∙_, ap}
-use mathlib.Core.Bool.{Bool, true, false}
 use mathlib.Core.List.{List, [], _∷_, _++_}
-use Prim.Native.Nat.{ℕ, zero, suc, _+_, _-_, _*_, _≤_, _<_}
+use Prim.Native.Nat.{ℕ, zero, suc, _+_, _≤_}
 use native.Mathlib.Omega.{arith}
 use native.Mathlib.Nat.{add-suc}
 use lib.ListN.{length}
-use Rattle.rules.specs.Numbers.{maxLinkWeight}
-use Rattle.rules.specs.Lists.{In}
-use Rattle.rules.specs.Columns.{Links, Hierarchy, Side, forward, backward, rank}
+use Rattle.rules.specs.Columns.{Hierarchy, Side, forward, backward}
 use Rattle.rules.specs.TableRules.{TableRules}
-use Rattle.rules.specs.Refusals.{Row, first-met, BuildCall, QueryCall, graph-rows, order-rows, build-refusal, query-refusal}
+use Rattle.rules.specs.Refusals.{Row, first-met, BuildCall, graph-rows, order-rows, build-refusal}
 use Rattle.rules.specs.Graph.{Arc}
 use Rattle.rules.specs.Search.{Search, run, search-fuel}
 use Rattle.rules.specs.Build.{Step, went, refused, Building, contraction, built, unless-refused, build}
-use Rattle.rules.specs.Query.{End, endList, Half, entered, rounds, climb, root, searched}
+use Rattle.rules.specs.Query.{End, endList, Half, entered}
 use Rattle.rules.specs.Program.{digits, lines}
 use Rattle.rules.proofs.Cases.{on-test}
-use Rattle.routes.specs.Demands.{IsBuilt, Searched, begun, asked, added, Small, Demands}
-use Rattle.routes.proofs.Accepted.{AcceptedBuild, accepted-build}
+use Rattle.routes.specs.Demands.{Searched, begun, asked, added, Small, Demands}
+use Rattle.routes.proofs.Accepted.{accepted-build}
 use Rattle.routes.proofs.Refused.{build-half}
 use Rattle.routes.proofs.Enough.{never-10, never-11}
 use Rattle.routes.proofs.BuildLaws.{build-passes, ranks-inverse, no-neighbour-twice}
-use Rattle.routes.proofs.SearchBounds.{Paid, paid-heap, init-paid, added-paid, search-paid, left, run-enough, search-fuel-enough}
+use Rattle.routes.proofs.SearchBounds.{Paid, paid-heap, init-paid, added-paid, search-paid, run-enough, search-fuel-enough}
 use Rattle.routes.proofs.QueryTables.{unpacked-shortcut, unpacked-plain}
 use Rattle.routes.proofs.QueryState.{Sound}
-use Rattle.routes.proofs.QueryTurns.{Both, rounds-keep}
-use Rattle.routes.proofs.QueryAccepted.{EndsRules, Accepted, accepted, entered-both, searched-both, searched-empty}
+use Rattle.routes.proofs.QueryTurns.{rounds-keep}
+use Rattle.routes.proofs.QueryAccepted.{accepted, entered-both, searched-both, searched-empty}
 use Rattle.routes.proofs.QueryLaws.{heap-room}
 use Rattle.routes.proofs.QueryChains.{climb-enough, root-enough}
 use Rattle.routes.proofs.ProgramFuel.{digits-enough, lines-enough}

@@ -1,12 +1,10 @@
 -- Refusals that cannot come: a pool of n(n - 1) never meets 10, tables of n(n - 1)/2 never meet 11.
 use mathlib.Core.Path.{_≡_, refl, sym, _∙_, ap}
-use mathlib.Core.Bool.{Bool, true, false, _&&_}
-use mathlib.Core.List.{List, [], _∷_, _++_, map, append-assoc, append-nil}
-use Prim.Native.Nat.{ℕ, zero, suc, _+_, _-_, _*_, _≤_, _<_, zero-le}
+use mathlib.Core.List.{List, [], _∷_, _++_, map, append-nil}
+use Prim.Native.Nat.{ℕ, zero, suc, _+_, _-_, _*_, _≤_}
 use native.Mathlib.Omega.{arith}
-use native.Mathlib.Nat.{mul-suc, suc-mul, add-sub-of-le}
+use native.Mathlib.Nat.{mul-suc, suc-mul}
 use native.Mathlib.Numerals.{add-one}
-use lib.Dec.{eqb, leb}
 use lib.ListN.{length, length-append, length-map}
 use borrow.Author.Tests.{le-leb}
 use Rattle.rules.specs.Numbers.{maxLinkWeight}
@@ -14,20 +12,19 @@ use Rattle.rules.specs.Lists.{In, flat-map}
 use Rattle.rules.specs.Columns.{Link, linkList, Side, forward, backward, room}
 use Rattle.rules.specs.Refusals.{BuildCall}
 use Rattle.rules.specs.Graph.{Arc}
-use Rattle.rules.specs.Build.{Step, went, refused, in-pool, Level, arcs-of, neighbour-of, level-raws, raws, in-tables, Building, contraction}
+use Rattle.rules.specs.Build.{refused, in-pool, Level, arcs-of, neighbour-of, level-raws, raws, in-tables, Building, contraction}
 use Rattle.rules.proofs.Decides.{both-and}
 use Rattle.rules.proofs.Ranges.{Differ, distinct-decides}
 use Rattle.rules.proofs.Members.{in-map}
 use Rattle.rules.proofs.Positions.{same-position}
 use Rattle.rules.proofs.Pigeonhole.{at-most}
 use Rattle.rules.proofs.Prefixes.{flat-map-append}
-use Rattle.routes.proofs.Levels.{rank-of, level-of, with-level, GraphOk, LevelOk, level-ok}
-use Rattle.routes.proofs.Runs.{RunOk, Stepped, next-rank, next-inside}
+use Rattle.routes.proofs.Levels.{rank-of, level-of, with-level, LevelOk, level-ok}
+use Rattle.routes.proofs.Runs.{RunOk, next-rank, next-inside}
 use Rattle.routes.proofs.Accepted.{AcceptedBuild}
-use Rattle.routes.proofs.Starts.{first-building}
 use Rattle.routes.proofs.Room.{codes-distinct, live-most}
 use Rattle.routes.proofs.BuiltTables.{ends-by-side, level-size}
-use Rattle.routes.proofs.Refused.{Only, went-only, contraction-only, pool-leaf, tables-leaf}
+use Rattle.routes.proofs.Refused.{went-only, contraction-only, pool-leaf, tables-leaf}
 
 -- 0 + 1 + .. + (n - 1), which is n(n - 1)/2
 unfoldable pub triangle : ℕ → ℕ

@@ -1,18 +1,18 @@
 -- The preparation graph's arcs as edges; adding or reducing makes no pair of ends heavier.
 use mathlib.Core.Path.{_≡_, refl, sym, _∙_, ap}
-use mathlib.Core.Logic.{_⊎_, inl, inr}
-use mathlib.Core.Bool.{Bool, true, false, not, _&&_, _||_, or-true, true≢false, false≢true}
-use mathlib.Core.List.{List, [], _∷_, List·Memᴰ, List·Memᴰ·head, List·Memᴰ·tail, List·Memᴰ·cases-cons, List·Memᴰ·not-nil, Memᴰ·cast}
-use Prim.Native.Nat.{ℕ, _+_, _≤_}
+use mathlib.Core.Logic.{inl, inr}
+use mathlib.Core.Bool.{true, not, _||_, or-true, false≢true}
+use mathlib.Core.List.{List, [], _∷_, List·Memᴰ·head, List·Memᴰ·tail, List·Memᴰ·cases-cons, List·Memᴰ·not-nil}
+use Prim.Native.Nat.{ℕ, _≤_}
 use native.Mathlib.Omega.{arith}
 use lib.Dec.{eqb, leb}
-use borrow.Author.Tests.{eqb-true, eqb-false, eq-eqb, ne-eqb, leb-true, leb-false}
-use Rattle.rules.specs.Lists.{In, keep}
+use borrow.Author.Tests.{eqb-true, eq-eqb, ne-eqb, leb-true, leb-false}
+use Rattle.rules.specs.Lists.{In}
 use Rattle.rules.specs.Graph.{Arc, leaves, enters, outs, ins, joins, reduce, addOrReduce, disconnect}
-use Rattle.rules.proofs.Decides.{and-both, both-and}
+use Rattle.rules.proofs.Decides.{and-both}
 use Rattle.rules.proofs.Cases.{on-test}
 use Rattle.rules.proofs.Members.{keep-in, in-keep}
-use Rattle.routes.specs.Paths.{Edges, Path, Within}
+use Rattle.routes.specs.Paths.{Edges, Path}
 use Rattle.routes.proofs.Paths.{Lighter, never-at}
 
 -- the arcs of a graph as edges

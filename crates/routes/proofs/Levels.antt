@@ -1,25 +1,23 @@
 -- What holds of every graph that a build meets, and of every level that it writes.
 use mathlib.Core.Path.{_≡_, refl, sym, _∙_, ap}
 use mathlib.Core.Logic.{_⊎_, inl, inr}
-use mathlib.Core.Bool.{Bool, true, false, not, _&&_, _||_, true≢false, false≢true}
-use mathlib.Core.List.{List, [], _∷_, _++_, map, List·Memᴰ·head, List·Memᴰ·tail, List·Memᴰ·cases-cons, List·Memᴰ·not-nil, List·Memᴰ·eq-of-singleton, Memᴰ·cast, Memᴰ·append-left, Memᴰ·append-right, List·Memᴰ·append-cases}
-use Prim.Native.Nat.{ℕ, zero, suc, _+_, _≤_, _<_}
+use mathlib.Core.Bool.{Bool, false, false≢true}
+use mathlib.Core.List.{List, [], _∷_, _++_, List·Memᴰ·head, List·Memᴰ·tail, List·Memᴰ·cases-cons, List·Memᴰ·not-nil, List·Memᴰ·eq-of-singleton, Memᴰ·append-left, Memᴰ·append-right}
+use Prim.Native.Nat.{ℕ, suc, _+_, _≤_, _<_}
 use native.Mathlib.Omega.{arith}
 use native.Mathlib.Decide.{ℕ-discrete}
-use lib.Dec.{eqb, ltb, leb}
-use lib.ListN.{length, getD}
-use borrow.Author.Tests.{eqb-true, eqb-false, eq-eqb, ne-eqb, ltb-false, leb-true, leb-false}
-use Rattle.rules.specs.Numbers.{noWeight, maxWeight, invalid}
+use lib.Dec.{eqb, leb}
+use lib.ListN.{length}
+use borrow.Author.Tests.{eq-eqb}
+use Rattle.rules.specs.Numbers.{maxWeight, invalid}
 use Rattle.rules.specs.Lists.{In, keep, position}
 use Rattle.rules.specs.Columns.{Link, Side, forward, backward}
 use Rattle.rules.specs.Graph.{Arc, outs, ins, joins, reduce, addOrReduce, disconnect}
-use Rattle.rules.specs.Build.{Step, went, refused, and-then, in-pool, shortcut, handle-shortcuts, contract-node, Level, arcs-of, neighbour-of}
+use Rattle.rules.specs.Build.{went, shortcut, contract-node, Level, arcs-of, neighbour-of}
 use Rattle.rules.proofs.Decides.{both-and}
 use Rattle.rules.proofs.Cases.{on-test}
-use Rattle.rules.proofs.Steps.{went-same, refused-not-went, both-went}
-use Rattle.rules.proofs.Members.{in-keep, keep-in}
-use Rattle.rules.proofs.Positions.{position-is, same-position}
-use Rattle.routes.specs.Paths.{Edges, Path, stay, step, Within}
+use Rattle.rules.proofs.Members.{in-keep}
+use Rattle.rules.proofs.Positions.{same-position}
 use Rattle.routes.specs.Demand.{Linked}
 use Rattle.routes.proofs.Graphs.{in-outs, in-ins, in-disconnected, joined-ends, reduced}
 use Rattle.routes.proofs.Contraction.{Loopless, shortcuts-keep, contracted}

@@ -1,13 +1,13 @@
 -- The record program's fuel never runs out: a number has fewer digits than itself and one, and a record has a byte.
 use mathlib.Core.Path.{_≡_, refl, ap, fun-ext}
-use mathlib.Core.Bool.{Bool, true, false, _&&_}
+use mathlib.Core.Bool.{true, _&&_}
 use mathlib.Core.List.{List, [], _∷_, _++_}
-use Prim.Native.Nat.{ℕ, zero, suc, _+_, _/_, _%_, _-_, _≤_, _<_}
+use Prim.Native.Nat.{ℕ, zero, suc, _+_, _/_, _%_, _≤_, _<_}
 use native.Mathlib.Omega.{arith}
 use lib.Dec.{eqb, ltb, leb}
 use lib.ListN.{length, getD, drop, length-drop}
 use borrow.Author.Tests.{ltb-false, leb-true}
-use Rattle.rules.specs.Program.{digits, Phase, Next, act, follow, whole, record-length, kind-of, lines}
+use Rattle.rules.specs.Program.{digits, Phase, act, follow, whole, record-length, kind-of, lines}
 use Rattle.rules.proofs.Cases.{on-test}
 use Rattle.rules.proofs.Decides.{and-both}
 

@@ -1,7 +1,7 @@
 -- What an accepted query brings; that its search starts sound, stays so, and ends with both heaps empty.
 use mathlib.Core.Path.{_≡_, refl, ap}
 use mathlib.Core.Logic.{_⊎_, inl, inr}
-use mathlib.Core.Bool.{Bool, true, false, _&&_, _||_, true≢false}
+use mathlib.Core.Bool.{true, false, _&&_}
 use mathlib.Core.List.{List, [], _∷_, List·Memᴰ·head, List·Memᴰ·tail, List·Memᴰ·cases-cons, List·Memᴰ·not-nil}
 use Prim.Native.Nat.{ℕ, _+_, _≤_, _<_}
 use native.Mathlib.Omega.{arith}
@@ -12,7 +12,7 @@ use Rattle.rules.specs.Numbers.{maxEnds, maxWeight, noWeight}
 use Rattle.rules.specs.Lists.{In, all}
 use Rattle.rules.specs.Columns.{forward, backward, table, Ends}
 use Rattle.rules.specs.TableRules.{TableRules}
-use Rattle.rules.specs.Refusals.{Row, first-met, QueryCall, ends-fit, offset-fits, check-rows, end-rows, query-refusal, short, query-scratch}
+use Rattle.rules.specs.Refusals.{QueryCall, ends-fit, offset-fits, check-rows, end-rows, query-refusal, short, query-scratch}
 use Rattle.rules.specs.Query.{End, zip-ends, endList, counts, Best, coincide, coincide-all, first-step, Half, untouched, enter, query-fuel, entered, searched}
 use Rattle.rules.proofs.Decides.{and-both, or-either}
 use Rattle.rules.proofs.TablesDecided.{tables-decided}

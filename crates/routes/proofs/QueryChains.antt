@@ -11,7 +11,7 @@ use borrow.Author.Tests.{eqb-false, eq-eqb, ne-eqb}
 use Rattle.rules.specs.Numbers.{noWeight, invalid}
 use Rattle.rules.specs.Lists.{In, flat-map}
 use Rattle.rules.specs.Columns.{Link, Hierarchy, Side, forward, backward, table, entry, rank}
-use Rattle.rules.specs.TableRules.{used, TableRules}
+use Rattle.rules.specs.TableRules.{TableRules}
 use Rattle.rules.specs.Unpack.{unpacked}
 use Rattle.rules.specs.Query.{End, Label, no-label, Half, climb, root}
 use Rattle.rules.proofs.Cases.{on-test}

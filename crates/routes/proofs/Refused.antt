@@ -1,17 +1,17 @@
 -- With which numbers a contraction can end: one traversal of its steps, over what the numbers are to pass.
 use mathlib.Core.Path.{_≡_, refl, sym, _∙_, ap}
-use mathlib.Core.Bool.{Bool, true, false, _&&_, true≢false}
-use mathlib.Core.List.{List, [], _∷_, map, List·Memᴰ·head, List·Memᴰ·tail, List·Memᴰ·eq-of-singleton, Memᴰ·cast}
-use Prim.Native.Nat.{ℕ, zero, suc, _+_, _≤_, _<_}
+use mathlib.Core.Bool.{_&&_}
+use mathlib.Core.List.{List, [], _∷_, List·Memᴰ·head, List·Memᴰ·tail, List·Memᴰ·eq-of-singleton, Memᴰ·cast}
+use Prim.Native.Nat.{ℕ, zero, suc, _+_, _≤_}
 use native.Mathlib.Omega.{arith}
 use lib.Dec.{eqb, ltb, leb}
 use lib.ListN.{length}
 use borrow.Author.Tests.{eqb-false, ltb-false}
 use Rattle.rules.proofs.Ranges.{Differ, distinct-decides}
 use Rattle.rules.specs.Numbers.{maxWeight, maxLinkWeight}
-use Rattle.rules.specs.Columns.{Link, linkList, Hierarchy, forward, backward, room}
+use Rattle.rules.specs.Columns.{Link, linkList, forward, backward, room}
 use Rattle.rules.specs.Refusals.{BuildCall, build-refusal}
-use Rattle.rules.specs.Graph.{Arc, outs, ins, addOrReduce}
+use Rattle.rules.specs.Graph.{Arc, outs, ins}
 use Rattle.rules.specs.Search.{init, find-max-weight}
 use Rattle.rules.specs.Build.{Step, went, refused, and-then, in-pool, from-links, Contracting, shortcut, add, unless-witness, ask, within-sum, pair, pairs-of, handle-shortcuts, contract-node, Level, raws, in-tables, Building, rank-step, rank-steps, contraction, finish-contraction, built, unless-refused, build}
 use Rattle.rules.specs.Lists.{In}

@@ -1,17 +1,16 @@
 -- How many arcs can be live, and how many entries a table can take.
 use mathlib.Core.Path.{_≡_, refl, sym, _∙_, ap}
-use mathlib.Core.Logic.{_⊎_, inl, inr}
-use mathlib.Core.Bool.{Bool, true, false, not, _&&_, true≢false, false≢true}
+use mathlib.Core.Bool.{true, false≢true}
 use mathlib.Core.List.{List, [], _∷_, map, List·Memᴰ·head, List·Memᴰ·tail}
-use Prim.Native.Nat.{ℕ, zero, suc, _+_, _-_, _*_, _≤_, _<_, zero-le}
+use Prim.Native.Nat.{ℕ, _+_, _-_, _*_, _≤_, _<_}
 use native.Mathlib.Omega.{arith}
-use native.Mathlib.Decide.{ℕ-discrete, decLt}
-use native.Mathlib.Nat.{mul-suc, suc-mul, mul-le-mul-right, mul-comm}
+use native.Mathlib.Decide.{decLt}
+use native.Mathlib.Nat.{suc-mul, mul-le-mul-right}
 use lib.Dec.{eqb}
 use lib.ListN.{length, length-map}
 use borrow.Author.Tests.{eq-eqb}
-use Rattle.rules.specs.Lists.{In, any, distinct, position}
-use Rattle.rules.specs.Columns.{Link, Side}
+use Rattle.rules.specs.Lists.{In, any, distinct}
+use Rattle.rules.specs.Columns.{Link}
 use Rattle.rules.specs.Graph.{Arc, joins}
 use Rattle.rules.specs.Build.{Level}
 use Rattle.rules.proofs.Decides.{both-and}

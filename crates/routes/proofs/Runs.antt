@@ -1,31 +1,31 @@
 -- The run over the order: every level is as it should be, and what the graph reaches goes up and down by levels.
 use mathlib.Core.Path.{_≡_, refl, sym, _∙_, ap}
-use mathlib.Core.Logic.{_⊎_, inl, inr}
-use mathlib.Core.Bool.{Bool, true, false, _&&_}
-use mathlib.Core.List.{List, [], _∷_, _++_, map, map-append, append-assoc, append-nil, List·Memᴰ·head, List·Memᴰ·tail, List·Memᴰ·cases-cons, List·Memᴰ·not-nil, List·Memᴰ·eq-of-singleton, Memᴰ·cast, Memᴰ·append-left, Memᴰ·append-right, List·Memᴰ·append-cases}
-use Prim.Native.Nat.{ℕ, zero, suc, _+_, _-_, _≤_, _<_, zero-le}
+use mathlib.Core.Logic.{inl, inr}
+use mathlib.Core.Bool.{_&&_}
+use mathlib.Core.List.{List, [], _∷_, _++_, map, map-append, append-assoc, List·Memᴰ·head, List·Memᴰ·cases-cons, List·Memᴰ·not-nil, List·Memᴰ·eq-of-singleton, Memᴰ·cast, Memᴰ·append-left, Memᴰ·append-right, List·Memᴰ·append-cases}
+use Prim.Native.Nat.{ℕ, suc, _+_, _-_, _≤_, _<_, zero-le}
 use native.Mathlib.Omega.{arith}
 use native.Mathlib.Numerals.{add-one}
 use native.Mathlib.Nat.{add-sub-of-le}
 use native.Mathlib.Decide.{ℕ-discrete}
-use lib.Dec.{eqb, ltb, leb}
-use lib.ListN.{length, getD, drop, length-append, length-map}
-use lib.Seq.{getD-append-seam, drop-append-seam, getD-append-add}
-use borrow.Author.Tests.{eqb-true, eq-eqb, leb-true}
-use Rattle.rules.specs.Lists.{In, position}
+use lib.Dec.{eqb, leb}
+use lib.ListN.{length, getD, length-append, length-map}
+use lib.Seq.{getD-append-seam, getD-append-add}
+use borrow.Author.Tests.{eq-eqb, leb-true}
+use Rattle.rules.specs.Lists.{In}
 use Rattle.rules.specs.Columns.{Link, Side, forward, backward, room}
 use Rattle.rules.specs.Refusals.{BuildCall}
-use Rattle.rules.specs.Graph.{Arc, outs, ins}
-use Rattle.rules.specs.Build.{Step, went, refused, and-then, in-tables, contract-node, Level, arcs-of, neighbour-of, raws, Building, rank-step, rank-steps}
+use Rattle.rules.specs.Graph.{Arc}
+use Rattle.rules.specs.Build.{went, in-tables, contract-node, Level, arcs-of, neighbour-of, raws, Building, rank-step, rank-steps}
 use Rattle.rules.proofs.Decides.{and-both}
 use Rattle.rules.proofs.Ranges.{Differ}
 use Rattle.rules.proofs.Cases.{on-test}
 use Rattle.rules.proofs.Steps.{went-same, refused-not-went, both-went}
 use Rattle.rules.proofs.Members.{getD-in}
-use Rattle.rules.proofs.Positions.{position-is, position-first, same-position}
-use Rattle.routes.specs.Paths.{Edges, Path, stay, step, Within}
-use Rattle.routes.proofs.Paths.{last-edge, lighter-path, said}
-use Rattle.routes.proofs.Graphs.{Arcs, in-outs, in-ins, outs-in, ins-in}
+use Rattle.rules.proofs.Positions.{position-is, position-first}
+use Rattle.routes.specs.Paths.{Edges, Path, stay, step}
+use Rattle.routes.proofs.Paths.{last-edge}
+use Rattle.routes.proofs.Graphs.{Arcs, outs-in, ins-in}
 use Rattle.routes.proofs.Contraction.{contraction-keeps}
 use Rattle.routes.proofs.Levels.{level-of, with-level, rank-of, Later, GraphOk, LevelOk, level-ok, level-more, contracted-ok}
 

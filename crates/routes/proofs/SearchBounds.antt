@@ -1,19 +1,17 @@
 -- A witness search's fuel never runs out, and its heap never holds more than the live arcs and one.
 -- The idea: arcs whose tail is settled pay for what they pushed; each entry that leaves is paid for once.
-use mathlib.Core.Path.{_≡_, refl, sym, _∙_, ap}
-use mathlib.Core.Logic.{_⊎_, inl, inr}
-use mathlib.Core.Bool.{Bool, true, false, not, _||_, true≢false, false≢true}
-use mathlib.Core.List.{List, [], _∷_, List·Memᴰ·head, List·Memᴰ·tail}
+use mathlib.Core.Path.{_≡_, refl, _∙_, ap}
+use mathlib.Core.Bool.{Bool, true, false, not}
+use mathlib.Core.List.{List, [], _∷_}
 use Prim.Native.Nat.{ℕ, zero, suc, _+_, _≤_, _<_, zero-le}
 use native.Mathlib.Omega.{arith}
-use native.Mathlib.Decide.{ℕ-discrete}
 use lib.Dec.{eqb, ltb, leb}
 use lib.ListN.{length}
-use borrow.Author.Tests.{eqb-true, eqb-false, eq-eqb, ne-eqb}
+use borrow.Author.Tests.{eqb-true, eqb-false}
 use Rattle.rules.specs.Lists.{keep, update}
-use Rattle.rules.specs.Heap.{Item, leaves-first, push}
-use Rattle.rules.specs.Graph.{Arc, leaves, outs, joins, reduce, addOrReduce}
-use Rattle.rules.specs.Search.{Search, init, offer, relax, with-heap, mark-settled, settle, Found, reached, run, search-fuel, answer, find-max-weight}
+use Rattle.rules.specs.Heap.{Item}
+use Rattle.rules.specs.Graph.{Arc, leaves, outs, joins, addOrReduce}
+use Rattle.rules.specs.Search.{Search, init, offer, relax, with-heap, mark-settled, settle, reached, run, search-fuel, find-max-weight}
 use Rattle.rules.proofs.Cases.{on-test}
 use Rattle.rules.proofs.Heaps.{update-same, update-other, push-length}
 use Rattle.routes.proofs.Graphs.{reduced}

@@ -1,24 +1,24 @@
 -- Labels are walks: what a witness search labels, a walk that avoids the contracted node makes. Nothing about least
 -- weights is needed.
 use mathlib.Core.Path.{_≡_, refl, sym, _∙_, ap}
-use mathlib.Core.Logic.{_⊎_, inl, inr}
-use mathlib.Core.Bool.{Bool, true, false, _||_, true≢false, false≢true}
-use mathlib.Core.List.{List, [], _∷_, List·Memᴰ·head, List·Memᴰ·tail, List·Memᴰ·cases-cons, List·Memᴰ·not-nil, List·Memᴰ·eq-of-singleton, Memᴰ·cast}
-use Prim.Native.Nat.{ℕ, zero, suc, _+_, _≤_, _<_, zero-le}
+use mathlib.Core.Logic.{inl, inr}
+use mathlib.Core.Bool.{false, _||_}
+use mathlib.Core.List.{List, [], _∷_, List·Memᴰ·head, List·Memᴰ·tail, List·Memᴰ·eq-of-singleton, Memᴰ·cast}
+use Prim.Native.Nat.{ℕ, zero, suc, _+_, _<_, zero-le}
 use native.Mathlib.Decide.{ℕ-discrete}
 use native.Mathlib.Omega.{arith}
 use lib.Dec.{eqb, ltb, leb}
-use borrow.Author.Tests.{eqb-true, eqb-false, eq-eqb, ne-eqb, ltb-true, leb-true}
+use borrow.Author.Tests.{eqb-false}
 use Rattle.rules.specs.Numbers.{noWeight}
-use Rattle.rules.specs.Lists.{In, update}
-use Rattle.rules.specs.Heap.{Item, leaves-first, push}
+use Rattle.rules.specs.Lists.{In}
+use Rattle.rules.specs.Heap.{Item}
 use Rattle.rules.specs.Graph.{Arc, outs, disconnect}
-use Rattle.rules.specs.Search.{Search, init, offer, relax, with-heap, mark-settled, settle, Found, reached, run, search-fuel, answer, find-max-weight}
+use Rattle.rules.specs.Search.{Search, init, offer, relax, with-heap, mark-settled, settle, reached, run, search-fuel, answer, find-max-weight}
 use Rattle.rules.proofs.Cases.{on-test}
 use Rattle.rules.proofs.Heaps.{update-same, update-other, push-in}
-use Rattle.routes.specs.Paths.{Edges, Path, stay, step, Within}
+use Rattle.routes.specs.Paths.{Edges, stay, Within}
 use Rattle.routes.proofs.Paths.{Lighter, lighter-within, within-join, edge-within}
-use Rattle.routes.proofs.Graphs.{Arcs, Avoiding, by-ends, in-outs, in-disconnected, disconnected-in, avoiding-never-at}
+use Rattle.routes.proofs.Graphs.{Arcs, Avoiding, by-ends, in-outs, disconnected-in, avoiding-never-at}
 
 -- Every label, and every entry of the heap, is the weight of a walk, or more.
 pub record Walked (E : Edges) (a : ℕ) (s : Search) : Type 0 where

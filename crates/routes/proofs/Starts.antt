@@ -1,31 +1,31 @@
 -- The links as the first graph, and the whole contraction of an accepted build.
 use mathlib.Core.Path.{_≡_, refl, sym, _∙_, ap}
-use mathlib.Core.Logic.{_⊎_, inl, inr}
-use mathlib.Core.Bool.{Bool, true, false, not, _&&_, true≢false, false≢true}
-use mathlib.Core.List.{List, [], _∷_, _++_, map, List·Memᴰ·head, List·Memᴰ·tail, List·Memᴰ·cases-cons, List·Memᴰ·not-nil}
-use Prim.Native.Nat.{ℕ, zero, suc, _+_, _≤_, _<_, zero-le}
+use mathlib.Core.Logic.{inl, inr}
+use mathlib.Core.Bool.{true}
+use mathlib.Core.List.{List, [], _∷_, map, List·Memᴰ·head, List·Memᴰ·tail, List·Memᴰ·cases-cons, List·Memᴰ·not-nil}
+use Prim.Native.Nat.{ℕ, _≤_, _<_, zero-le}
 use native.Mathlib.Omega.{arith}
-use lib.Dec.{eqb, ltb}
+use lib.Dec.{eqb}
 use lib.ListN.{length}
-use borrow.Author.Tests.{eqb-true, eqb-false, eq-eqb, ne-eqb}
-use Rattle.rules.specs.Numbers.{maxWeight, maxLinkWeight, invalid}
+use borrow.Author.Tests.{eq-eqb}
+use Rattle.rules.specs.Numbers.{maxLinkWeight, invalid}
 use Rattle.rules.specs.Lists.{In, flat-map}
-use Rattle.rules.specs.Columns.{Links, Link, linkList, zip-links}
+use Rattle.rules.specs.Columns.{Link, linkList, zip-links}
 use Rattle.rules.specs.Refusals.{BuildCall, ascending}
-use Rattle.rules.specs.Graph.{Arc, joins}
-use Rattle.rules.specs.Build.{went, and-then, link-arc, from-links, Level, raws, Building, rank-steps, contraction}
-use Rattle.rules.proofs.Ranges.{Differ, distinct-decides}
+use Rattle.rules.specs.Graph.{joins}
+use Rattle.rules.specs.Build.{went, link-arc, from-links, raws, Building, rank-steps, contraction}
+use Rattle.rules.proofs.Ranges.{distinct-decides}
 use Rattle.rules.proofs.Cases.{on-test}
-use Rattle.rules.proofs.Steps.{both-went, went-same}
+use Rattle.rules.proofs.Steps.{both-went}
 use Rattle.rules.proofs.Members.{in-map, map-in}
 use Rattle.rules.proofs.Positions.{position-below}
 use Rattle.rules.proofs.Pigeonhole.{every-below}
-use Rattle.routes.specs.Paths.{Edges, Path, stay, step}
+use Rattle.routes.specs.Paths.{Path}
 use Rattle.routes.specs.Demand.{Linked}
 use Rattle.routes.proofs.Paths.{Lighter, lighter-path}
 use Rattle.routes.proofs.Graphs.{Arcs, joined-ends}
-use Rattle.routes.proofs.Contraction.{Loopless, pool-held}
-use Rattle.routes.proofs.Levels.{Apart, rank-of, Later, ArcOk, GraphOk}
+use Rattle.routes.proofs.Contraction.{pool-held}
+use Rattle.routes.proofs.Levels.{Apart, rank-of, GraphOk}
 use Rattle.routes.proofs.Runs.{RunOk, Fit, levels-fit, LevelUpDown, up-down}
 use Rattle.routes.proofs.Accepted.{AcceptedBuild, Before, ascending-before}
 

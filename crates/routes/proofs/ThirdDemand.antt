@@ -1,9 +1,6 @@
 -- The third demand: the build's half and the query's half together.
 use Rattle.rules.specs.Columns.{linkList}
-use Rattle.rules.specs.Refusals.{BuildCall, QueryCall}
-use Rattle.rules.specs.Build.{build}
 use Rattle.routes.specs.Demand.{ThirdDemand}
-use Rattle.routes.specs.Promise.{Promise}
 use Rattle.routes.proofs.Refused.{build-half}
 use Rattle.routes.proofs.QueryHalf.{query-half}
 

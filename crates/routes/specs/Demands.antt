@@ -7,7 +7,7 @@ use Prim.Native.Nat.{ℕ, suc, _+_, _-_, _*_, _≤_, _<_}
 use lib.ListN.{length, getD}
 use Rattle.rules.specs.Numbers.{maxWeight, maxLinkWeight, noWeight}
 use Rattle.rules.specs.Lists.{In, distinct}
-use Rattle.rules.specs.Columns.{Links, linkList, Hierarchy, Side, forward, backward, table, entry, rank, room, entries}
+use Rattle.rules.specs.Columns.{linkList, Hierarchy, Side, forward, backward, table, entry, rank, room, entries}
 use Rattle.rules.specs.TableRules.{tail-of, used, TableRules}
 use Rattle.rules.specs.Refusals.{BuildCall, QueryCall, check-refusal, query-refusal}
 use Rattle.rules.specs.Heap.{Item}
@@ -15,7 +15,7 @@ use Rattle.rules.specs.Graph.{Arc, addOrReduce}
 use Rattle.rules.specs.Search.{Search, init, run, search-fuel, find-max-weight}
 use Rattle.rules.specs.Build.{Built, build}
 use Rattle.rules.specs.Unpack.{is-shortcut, unpacked}
-use Rattle.rules.specs.Query.{Half, Halves, Answered, entered, rounds, query-fuel, climb, root, searched, query}
+use Rattle.rules.specs.Query.{Half, Answered, entered, rounds, climb, root, searched, query}
 use Rattle.rules.specs.Program.{Phase, digits, lines}
 use Rattle.routes.specs.Demand.{ThirdDemand}
 use Rattle.routes.specs.Promise.{Promise}

@@ -1,7 +1,7 @@
 -- Tables that pass the table rules though no build made them: the steps fix the answer, and no more is claimed. Here they
 -- answer 20 by the walk 0, 1, which makes 16: source 0 at 5, a link of 1, target 1 at 10.
 use mathlib.Core.Path.{_≡_, refl}
-use mathlib.Core.List.{List, [], _∷_}
+use mathlib.Core.List.{[], _∷_}
 use lib.ListN.{replicate}
 use Rattle.rules.specs.Columns.{Hierarchy}
 use Rattle.rules.specs.Refusals.{QueryCall, query-scratch, query-refusal}

@@ -1,16 +1,16 @@
 -- Laws of the heap as a sorted list, and of a function that differs at one number.
-use mathlib.Core.Path.{_≡_, refl, sym, _∙_, ap}
+use mathlib.Core.Path.{_≡_, refl, ap}
 use mathlib.Core.Logic.{_⊎_, inl, inr}
-use mathlib.Core.Bool.{Bool, true, false, _&&_, _||_}
+use mathlib.Core.Bool.{true, false, _&&_}
 use mathlib.Core.List.{List, [], _∷_, List·Memᴰ·head, List·Memᴰ·tail, List·Memᴰ·cases-cons, List·Memᴰ·not-nil}
-use Prim.Native.Nat.{ℕ, suc, _≤_, _<_}
+use Prim.Native.Nat.{ℕ, suc, _≤_}
 use native.Mathlib.Omega.{arith}
 use lib.Dec.{eqb, ltb, leb}
 use lib.ListN.{length}
 use borrow.Author.Tests.{eqb-true, eq-eqb, ne-eqb, ltb-true, ltb-false}
 use Rattle.rules.specs.Lists.{In, update}
 use Rattle.rules.specs.Heap.{Item, leaves-first, push}
-use Rattle.rules.proofs.Cases.{on-test, not-both, neither}
+use Rattle.rules.proofs.Cases.{on-test, not-both}
 use Rattle.rules.proofs.Decides.{and-both, or-either, left-or}
 
 module _ {A : Type 0} (at : ℕ) (value : A) (f : ℕ → A) where

@@ -1,16 +1,16 @@
 -- Distinct numbers below k are at most k; so n of them below n are all.
 use mathlib.Core.Path.{_≡_, refl, sym, _∙_, ap}
-use mathlib.Core.Logic.{_⊎_, inl, inr}
-use mathlib.Core.Bool.{Bool, true, false, not, _&&_, true≢false, false≢true}
-use mathlib.Core.List.{List, [], _∷_, List·Memᴰ·head, List·Memᴰ·tail, List·Memᴰ·cases-cons, List·Memᴰ·not-nil}
-use Prim.Native.Nat.{ℕ, zero, suc, _+_, _≤_, _<_}
+use mathlib.Core.Logic.{inl, inr}
+use mathlib.Core.Bool.{true, false, not, true≢false, false≢true}
+use mathlib.Core.List.{List, [], _∷_, List·Memᴰ·head, List·Memᴰ·tail, List·Memᴰ·cases-cons}
+use Prim.Native.Nat.{ℕ, zero, suc, _≤_, _<_}
 use native.Mathlib.Omega.{arith}
-use lib.Dec.{eqb, ltb}
+use lib.Dec.{eqb}
 use lib.ListN.{length}
-use borrow.Author.Tests.{eqb-true, eqb-false, eq-eqb, ne-eqb, not-true}
-use Rattle.rules.specs.Lists.{In, all, any, keep, distinct}
+use borrow.Author.Tests.{eqb-true, eqb-false, eq-eqb, not-true}
+use Rattle.rules.specs.Lists.{In, any, keep, distinct}
 use Rattle.rules.proofs.Decides.{and-both, both-and}
-use Rattle.rules.proofs.Cases.{on-test, not-not, neither}
+use Rattle.rules.proofs.Cases.{on-test, neither}
 use Rattle.rules.proofs.Members.{in-keep, none-any}
 
 pub any-same : (u : ℕ) (xs : List ℕ) → any (eqb u) xs ≡ true → In u xs

@@ -1,17 +1,12 @@
 -- The table test passes exactly if the table rules hold: fact by fact, in the order of the paper.
-use mathlib.Core.Path.{_≡_, sym, _∙_, ap}
-use mathlib.Core.Logic.{_↔_, _⊎_}
-use mathlib.Core.Bool.{Bool, true, false, _&&_, _||_}
-use mathlib.Core.List.{List}
-use Prim.Native.Nat.{ℕ, suc, _+_, _≤_, _<_, min, zero-le}
+use mathlib.Core.Path.{_≡_, sym, _∙_}
+use Prim.Native.Nat.{ℕ, suc, _+_, _≤_, _<_, zero-le}
 use native.Mathlib.Omega.{arith}
-use lib.Dec.{eqb, ltb, leb}
-use lib.ListN.{length, getD, take, length-take}
+use lib.ListN.{length, getD, take}
 use lib.Seq.{getD-take, length-take-le}
 use Rattle.rules.specs.Numbers.{maxNodes, maxWeight, invalid}
-use Rattle.rules.specs.Lists.{all, distinct, range}
 use Rattle.rules.specs.Columns.{Table, Entry, Hierarchy, Side, forward, backward, table, entry, rank, begin, places, room, equally-long, EquallyLong}
-use Rattle.rules.specs.TableRules.{tail-of, head-of, used, Fitting, Opens, EntryRules, SideRules, TableRules, opens-test, numbers-test, entry-test, shape-test, rank-test, side-test, ranks-test, table-test}
+use Rattle.rules.specs.TableRules.{tail-of, head-of, used, Fitting, EntryRules, SideRules, TableRules, opens-test, numbers-test, entry-test, shape-test, rank-test, side-test, ranks-test, table-test}
 use Rattle.rules.proofs.Decides.{Decides, ltb-decides, leb-decides, eqb-decides, and-decides, or-decides, if-decides, decides-as}
 use Rattle.rules.proofs.Ranges.{all-decides, distinct-decides, Differ}
 

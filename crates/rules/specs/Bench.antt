@@ -6,8 +6,8 @@ use lib.ListN.{length, replicate}
 use Rattle.rules.specs.Numbers.{invalid, noWeight}
 use Rattle.rules.specs.Columns.{Link, Table, Entry, Hierarchy}
 use Rattle.rules.specs.Refusals.{BuildCall, QueryCall, build-scratch, query-scratch}
-use Rattle.rules.specs.Build.{Built, build}
-use Rattle.rules.specs.Query.{End, Answered, query}
+use Rattle.rules.specs.Build.{build}
+use Rattle.rules.specs.Query.{End, query}
 use Rattle.rules.specs.Computing.{computing}
 
 -- A graph with an order and a limit.

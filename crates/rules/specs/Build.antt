@@ -1,6 +1,6 @@
 -- "How a hierarchy is made": rules 1 to 5 with refusals 10 to 12 at the step that meets them, and the build as one
 -- function from what was given and lent to the answer and every lent place.
-use mathlib.Core.Bool.{Bool, true, false, _&&_}
+use mathlib.Core.Bool.{true, false, _&&_}
 use mathlib.Core.List.{List, [], _∷_, _++_, map}
 use Prim.Native.Nat.{ℕ, zero, suc, _+_}
 use lib.Dec.{eqb, ltb, leb}

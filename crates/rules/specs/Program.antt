@@ -6,7 +6,7 @@ use lib.Dec.{eqb, ltb, leb}
 use lib.ListN.{length, getD, drop, replicate}
 use Rattle.rules.specs.Numbers.{maxInput, programNodes, programLinks}
 use Rattle.rules.specs.Lists.{flat-map}
-use Rattle.rules.specs.Columns.{Link, Links, Table, Hierarchy, Ends}
+use Rattle.rules.specs.Columns.{Link, Table, Hierarchy}
 use Rattle.rules.specs.TableRules.{used}
 use Rattle.rules.specs.Refusals.{BuildCall, QueryCall, build-scratch, query-scratch}
 use Rattle.rules.specs.Build.{Built, build}

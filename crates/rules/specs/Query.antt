@@ -1,8 +1,8 @@
 -- "How a route is found": the query as one function from what was given and lent to the answer and every lent place.
-use mathlib.Core.Bool.{Bool, true, false, _&&_, _||_}
+use mathlib.Core.Bool.{Bool, true, false, _&&_}
 use mathlib.Core.List.{List, [], _∷_, _++_, reverse}
 use Prim.Native.Nat.{ℕ, zero, suc, _+_}
-use lib.Dec.{eqb, ltb, leb}
+use lib.Dec.{eqb, ltb}
 use lib.ListN.{length}
 use Rattle.rules.specs.Numbers.{invalid, noWeight}
 use Rattle.rules.specs.Lists.{any, over, update, flat-map}
