@@ -1,0 +1,42 @@
+-- The answers of `add_edge_or_shortcut` and `add_or_reduce_edge`.
+use mathlib.Core.Path.{_≡_, refl, sym}
+use mathlib.Core.List.{List}
+use Prim.Native.Nat.{ℕ, _<_}
+use native.Mathlib.Omega.{arith}
+use lib.ListN.{length}
+use Rattle.rules.specs.Graph.{Arc}
+use Rattle.graph.specs.declared.preparation_graph.Pool.{Pool}
+use Rattle.graph.specs.declared.preparation_graph.Added.{Added}
+use Rattle.graph.specs.declared.preparation_graph.Added.the-variants.{Arc as Came, Full}
+use Rattle.graph.specs.Memory.{Memory}
+use Rattle.graph.specs.Stands.{Stands}
+use Rattle.graph.specs.Promises.{Ready, Same, Answers, Reduces}
+
+came-same : (s t : Pool) → Came s ≡ Came t → s ≡ t
+came-same s t e = cc
+
+came-full : {A : Type 0} (s : Pool) → Came s ≡ Full → A
+came-full s e = let z : _≡_ {A = ℕ} 0 1 = cc in absurd (omega arith)
+
+module _ {n pool : ℕ} {m m′ : Memory} {w w′ : List ℕ} {h : List Arc} where
+  pub answers-came : {state : Pool} → Stands n pool m′ w′ state h → Answers n pool m w m′ w′ h (Came state)
+  answers-came {state} there = record {
+    came = λ t e. rw (came-same state t e) at there;
+    full = λ e. came-full state e;
+    same = λ e. came-full state e;
+  }
+
+pub answers-full : {n pool : ℕ} {m : Memory} {w : List ℕ} {h : List Arc} → pool < length h → Answers n pool m w m w h Full
+answers-full more = record {
+  came = λ t e. came-full t (sym e);
+  full = λ _. more;
+  same = λ _. record { memory-same = refl; weights-same = refl };
+}
+
+-- the slices are as they were: what is added to them is the answer
+module _ {n pool : ℕ} {m m′ : Memory} {w w′ : List ℕ} (same : Same m w m′ w′) where
+  pub still-ready : {state : Pool} {a : Arc} {g : List Arc} → Ready n pool m w state a g → Ready n pool m′ w′ state a g
+  still-ready r = rw (same .memory-same, same .weights-same) r
+
+  pub answers-after : {m″ : Memory} {w″ : List ℕ} {g h : List Arc} {r : Added} → g ≡ h → Answers n pool m′ w′ m″ w″ h r → Answers n pool m w m″ w″ g r
+  answers-after {m″} {w″} {g} {h} {r} e k = rw (e, ← (same .memory-same), ← (same .weights-same)) k

@@ -1,0 +1,14 @@
+-- What the proofs share.
+pub mod Lists
+pub mod Chains
+pub mod Stores
+pub mod Sides
+pub mod Places
+pub mod Standing
+pub mod Reading
+pub mod Reducing
+pub mod Removing
+pub mod Walking
+pub mod Answering
+pub mod Columns
+pub mod Rows

@@ -1,0 +1,103 @@
+-- `add_edge_or_shortcut` meets its contract: a freed place is used again, else a fresh one, and there is none only where the graph
+-- fills the pool.
+use mathlib.Core.List.{List}
+use Prim.Native.Nat.{ℕ, _<_}
+use native.Mathlib.Omega.{arith}
+use Rattle.rules.specs.Graph.{Arc}
+use Rattle.graph.specs.declared.preparation_graph.Pool.{Pool}
+use Rattle.graph.specs.Memory.{Memory}
+use Rattle.graph.specs.Promises.{Takes, Ready}
+use Rattle.graph.proofs.Answering.{answers-came, answers-full}
+use Rattle.graph.proofs.Standing.{takes, freed-below, stands-reused, stands-fresh, pool-full}
+use borrow.Author.Needs.{needs}
+use Rattle.graph.proofs.preparation_graph.add_edge_or_shortcut.Statement.{statement}
+use Rattle.graph.proofs.preparation_graph.add_edge_or_shortcut.Tie as tie
+use Rattle.graph.proofs.preparation_graph.add_edge_or_shortcut.Reads as reads
+use Rattle.graph.proofs.preparation_graph.add_edge_or_shortcut.Lts as lts
+use Rattle.graph.proofs.preparation_graph.put_arc.Reads as put-arc-reads
+
+ready-takes : {n pool p : ℕ} {m : Memory} {w : List ℕ} {state : Pool} {a : Arc} {g : List Arc} → Ready n pool m w state a g → p < pool → Takes m w p a
+ready-takes r below = takes (r .stands .placed) _ (r .stands .weights-room) _ below _ (r .tail-in) (r .head-in)
+
+cast-rest : tie.Need-cast-rest
+cast-rest c = search needs
+
+mul-rest : tie.Need-mul-rest
+mul-rest c = search needs
+
+add-rest : tie.Need-add-rest
+add-rest c = search needs
+
+mul-rest-2 : tie.Need-mul-rest-2
+mul-rest-2 c = search needs
+
+slice-read-rest : tie.Need-slice-read-rest
+slice-read-rest c =
+    let s = c .before .before .before .before .before in
+    let r = s .pre .2 in
+    omega (arith, freed-below (r .stands .placed) (c .before .if1 .taken), r .stands .placed .arcs-room)
+
+put-arc-requires : tie.Need-put-arc-requires
+put-arc-requires c κs =
+    let s = c .before .before .before .before .before .before .before .before in
+    let r = s .pre .2 in
+    ready-takes r (freed-below (r .stands .placed) (c .before .before .before .before .if1 .taken))
+
+same-length : tie.Need-same-length
+same-length c = search needs
+
+same-length-2 : tie.Need-same-length-2
+same-length-2 c = search needs
+
+same-length-3 : tie.Need-same-length-3
+same-length-3 c = search needs
+
+returns : tie.Need-returns
+returns c n g r =
+    let put = c .before .before .before .before .before .before .put-arc in
+    answers-came (rw (put .ensures .0, put .ensures .1) (stands-reused (r .stands) _ (r .tail-in) (r .head-in) (c .before .before .before .before .before .before .before .before .before .before .before .if1 .taken)))
+
+put-arc-requires-2 : tie.Need-put-arc-requires-2
+put-arc-requires-2 c κs = ready-takes (c .before .before .before .before .before .before .before .before .pre .2) (c .before .before .before .if2 .taken)
+
+add-t35 : tie.Need-add-t35
+add-t35 c = search needs
+
+same-length-4 : tie.Need-same-length-4
+same-length-4 c = search needs
+
+same-length-5 : tie.Need-same-length-5
+same-length-5 c = search needs
+
+same-length-6 : tie.Need-same-length-6
+same-length-6 c = search needs
+
+returns-2 : tie.Need-returns-2
+returns-2 c n g r =
+    let put = c .before .before .before .before .before .before .put-arc2 in
+    answers-came (rw (put .ensures .0, put .ensures .1) (stands-fresh (r .stands) _ (r .tail-in) (r .head-in) (c .before .before .before .before .before .before .before .before .before .before .before .if1 .left) (c .before .before .before .before .before .before .before .before .before .before .if2 .taken)))
+
+returns-3 : tie.Need-returns-3
+returns-3 c n g r = answers-full (pool-full (r .stands) _ (r .tail-in) (r .head-in) (c .before .if1 .left) (c .if2 .left))
+
+pub add-edge-or-shortcut-spec : {M : Type 1} → statement M
+add-edge-or-shortcut-spec =
+    tie.close
+    (tie.spec
+    cast-rest
+    mul-rest
+    add-rest
+    mul-rest-2
+    slice-read-rest
+    put-arc-requires
+    same-length
+    same-length-2
+    same-length-3
+    returns
+    put-arc-requires-2
+    add-t35
+    same-length-4
+    same-length-5
+    same-length-6
+    returns-2
+    returns-3)

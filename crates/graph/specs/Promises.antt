@@ -1,0 +1,83 @@
+-- What the functions ask and promise. `m` and `w` are the slices at entry, `m′` and `w′` at exit.
+use mathlib.Core.List.{List, [], _∷_, _++_}
+use mathlib.Core.Bool.{Bool, true, false}
+use mathlib.Core.Path.{_≡_}
+use Prim.Native.Nat.{ℕ, _+_, _*_, _<_, _≤_}
+use lib.ListN.{length}
+use Rattle.rules.specs.Numbers.{invalid}
+use Rattle.rules.specs.Lists.{any}
+use Rattle.rules.specs.Graph.{Arc, joins, addOrReduce}
+use Rattle.graph.specs.declared.preparation_graph.Pool.{Pool}
+use Rattle.graph.specs.declared.preparation_graph.Added.{Added}
+use Rattle.graph.specs.declared.preparation_graph.Added.the-variants.{Arc as Came, Full}
+use Rattle.graph.specs.Memory.{Memory, last, touches}
+use Rattle.graph.specs.Stands.{Stands}
+use Rattle.graph.specs.Walks.{drop-first, untouched}
+
+abbrev pub arc : ℕ → ℕ → ℕ → ℕ → Arc
+arc t h w c = record { tail = t; head = h; weight = w; centre = c }
+
+abbrev pub state-of : ℕ → ℕ → Pool
+state-of f u = record { free = f; fresh = u }
+
+-- a place's six numbers are within the slice
+abbrev pub Room : Memory → ℕ → Type 0
+Room m i = 6 * i + 6 ≤ length (m .arcs)
+
+-- the list of v on side s can be changed after b
+pub record Open (m : Memory) (s v b : ℕ) : Type 0 where
+  pub side : s < 2
+  pub node : 4 * v + 4 ≤ length (m .nodes)
+  pub place : (b ≡ invalid → ⊥) → Room m b
+
+-- place i can take an arc
+pub record Takes (m : Memory) (w : List ℕ) (i : ℕ) (a : Arc) : Type 0 where
+  pub place : Room m i
+  pub weighed : i < length w
+  pub out : Open m 0 (a .tail) (last m 0 (a .tail))
+  pub enter : Open m 1 (a .head) (last m 1 (a .head))
+
+-- the slices hold g, and a is an arc between its nodes
+pub record Ready (n pool : ℕ) (m : Memory) (w : List ℕ) (state : Pool) (a : Arc) (g : List Arc) : Type 0 where
+  pub stands : Stands n pool m w state g
+  pub tail-in : a .tail < n
+  pub head-in : a .head < n
+
+-- the slices hold some graph of more than v nodes, which no weight and none of the numbers here decides
+pub record Some (m : Memory) (free v : ℕ) : Type 0 where
+  pub nodes : ℕ
+  pub pool : ℕ
+  pub fresh : ℕ
+  pub weights : List ℕ
+  pub graph : List Arc
+  pub stands : Stands nodes pool m weights (state-of free fresh) graph
+  pub inside : v < nodes
+
+-- the slices are as they were
+pub record Same (m : Memory) (w : List ℕ) (m′ : Memory) (w′ : List ℕ) : Type 0 where
+  pub memory-same : m′ ≡ m
+  pub weights-same : w′ ≡ w
+
+-- an arc came, and the slices hold h; or h would exceed the pool, and they are as they were
+pub record Answers (n pool : ℕ) (m : Memory) (w : List ℕ) (m′ : Memory) (w′ : List ℕ) (h : List Arc) (r : Added) : Type 0 where
+  pub came : (state : Pool) → r ≡ Came state → Stands n pool m′ w′ state h
+  pub full : r ≡ Full → pool < length h
+  pub same : r ≡ Full → Same m w m′ w′
+
+-- an arc of the same ends was there, and is reduced; or there was none, and the slices are as they were
+pub record Reduces (n pool : ℕ) (m : Memory) (w : List ℕ) (m′ : Memory) (w′ : List ℕ) (state : Pool) (a : Arc) (g : List Arc) (r : Bool) : Type 0 where
+  pub found : any (joins a) g ≡ r
+  pub reduced : r ≡ true → Stands n pool m′ w′ state (addOrReduce a g)
+  pub added : r ≡ false → addOrReduce a g ≡ g ++ a ∷ []
+  pub same : r ≡ false → Same m w m′ w′
+
+-- whatever graph stood, it stands without the first arc of the list of v on side s; or without any of them
+abbrev pub Drops : Memory → Memory → ℕ → ℕ → ℕ → ℕ → Type 0
+Drops m m′ free free′ s v =
+    (n pool fresh : ℕ) (w : List ℕ) (g : List Arc) → Stands n pool m w (state-of free fresh) g → v < n →
+    Stands n pool m′ w (state-of free′ fresh) (drop-first (touches s v) g)
+
+abbrev pub Clears : Memory → Memory → ℕ → ℕ → ℕ → ℕ → Type 0
+Clears m m′ free free′ s v =
+    (n pool fresh : ℕ) (w : List ℕ) (g : List Arc) → Stands n pool m w (state-of free fresh) g → v < n →
+    Stands n pool m′ w (state-of free′ fresh) (untouched s v g)

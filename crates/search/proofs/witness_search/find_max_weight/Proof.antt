@@ -1,0 +1,72 @@
+-- `find_max_weight` meets its contract: the answer at once, by label or by stamp, or that of a run.
+use mathlib.Core.Path.{sym, _∙_}
+use native.Mathlib.Omega.{arith}
+use borrow.Author.Needs.{needs}
+use Rattle.search.proofs.Offers.{label-room}
+use Rattle.search.proofs.Answers.{answered-labelled, answered-settled, answered-run}
+use Rattle.search.proofs.witness_search.find_max_weight.Statement.{statement}
+use Rattle.search.proofs.witness_search.find_max_weight.Tie as tie
+
+get-current-weight-requires : tie.Need-get-current-weight-requires
+get-current-weight-requires c κs = search needs
+
+same-length : tie.Need-same-length
+same-length c = search needs
+
+returns : tie.Need-returns
+returns c =
+    λ w s x. answered-labelled (c .before .before .before .before .before .before .before .before .args .search) x _ (c .before .get-current-weight .ensures) (c .if1 .taken)
+
+is-settled-requires : tie.Need-is-settled-requires
+is-settled-requires c κs = search needs
+
+same-length-2 : tie.Need-same-length-2
+same-length-2 c = search needs
+
+returns-2 : tie.Need-returns-2
+returns-2 c =
+    λ w s x.
+    answered-settled (c .before .before .before .before .before .before .before .before .before .before .before .args .search) x _ (c .before .before .before .before .get-current-weight .ensures)
+    (sym (c .before .is-settled .ensures) ∙ c .if2 .taken)
+
+run-requires : tie.Need-run-requires
+run-requires c κs = search needs
+
+get-current-weight-requires-2 : tie.Need-get-current-weight-requires-2
+get-current-weight-requires-2 c κs =
+    let x = c .before .before .before .before .before .before .before .before .before .before .before .before .before .before .before .before .before .before .before .pre .2 in
+    omega (arith, label-room (x .ready .searching) _ (x .inside), c .before .before .before .before .before .run .kept .1 .1 .1 .0)
+
+same-length-3 : tie.Need-same-length-3
+same-length-3 c = search needs
+
+same-length-4 : tie.Need-same-length-4
+same-length-4 c = search needs
+
+returns-3 : tie.Need-returns-3
+returns-3 c =
+    let ran = c .before .before .before .before .before .before in
+    let open-node = ran .before .before .before in
+    let heavy = open-node .before .before .before in
+    let got = heavy .before in
+    λ w s x.
+    answered-run (c .before .before .before .before .before .before .before .before .before .before .before .before .before .before .before .before .before .before .before .before .args .search) x _ (ran .run .result) (got .get-current-weight .ensures) (heavy .if1 .left)
+    (sym (open-node .before .is-settled .ensures) ∙ open-node .if2 .left)
+    (ran .run .ensures w s x)
+    (c .get-current-weight2 .ensures)
+
+pub find-max-weight-spec : {M : Type 1} → statement M
+find-max-weight-spec =
+    tie.close
+    (tie.spec
+    get-current-weight-requires
+    same-length
+    returns
+    is-settled-requires
+    same-length-2
+    returns-2
+    run-requires
+    get-current-weight-requires-2
+    same-length-3
+    same-length-4
+    returns-3)

@@ -1,0 +1,2 @@
+// The witness search of contraction hierarchies.
+pub mod witness_search;
