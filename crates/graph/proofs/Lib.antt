@@ -12,3 +12,4 @@ pub mod Walking
 pub mod Answering
 pub mod Columns
 pub mod Rows
+pub mod LinksIn

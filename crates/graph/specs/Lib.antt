@@ -3,5 +3,5 @@ pub mod Memory
 pub mod Stands
 pub mod Steps
 pub mod Walks
-pub mod Promises
 pub mod Given
+pub mod Promises

@@ -3,7 +3,7 @@ use mathlib.Core.List.{List, [], _∷_, _++_}
 use mathlib.Core.Bool.{Bool, true, false}
 use mathlib.Core.Path.{_≡_}
 use Prim.Native.Nat.{ℕ, _+_, _*_, _<_, _≤_}
-use lib.ListN.{length}
+use lib.ListN.{length, getD}
 use Rattle.rules.specs.Numbers.{invalid}
 use Rattle.rules.specs.Lists.{any}
 use Rattle.rules.specs.Graph.{Arc, joins, addOrReduce}
@@ -12,6 +12,7 @@ use Rattle.graph.specs.declared.preparation_graph.Added.{Added}
 use Rattle.graph.specs.declared.preparation_graph.Added.the-variants.{Arc as Came, Full}
 use Rattle.graph.specs.Memory.{Memory, last, touches}
 use Rattle.graph.specs.Stands.{Stands}
+use Rattle.graph.specs.Given.{Even}
 use Rattle.graph.specs.Walks.{drop-first, untouched}
 
 abbrev pub arc : ℕ → ℕ → ℕ → ℕ → Arc
@@ -81,3 +82,21 @@ abbrev pub Clears : Memory → Memory → ℕ → ℕ → ℕ → ℕ → Type 0
 Clears m m′ free free′ s v =
     (n pool fresh : ℕ) (w : List ℕ) (g : List Arc) → Stands n pool m w (state-of free fresh) g → v < n →
     Stands n pool m′ w (state-of free′ fresh) (untouched s v g)
+
+-- the slices have room for a pool and n nodes
+pub record Spacious (n pool : ℕ) (m : Memory) (w : List ℕ) : Type 0 where
+  pub numbered : pool ≤ invalid
+  pub arcs-room : 6 * pool ≤ length (m .arcs)
+  pub weights-room : pool ≤ length w
+  pub nodes-room : 4 * n ≤ length (m .nodes)
+
+-- the columns are links between n nodes
+pub record Between (n : ℕ) (ts hs ws : List ℕ) : Type 0 where
+  pub even : Even ts hs ws
+  pub tails : (i : ℕ) → i < length ts → getD ts i 0 < n
+  pub heads : (i : ℕ) → i < length ts → getD hs i 0 < n
+
+-- the slices hold g; or the pool is smaller
+pub record Holds (n pool : ℕ) (m : Memory) (w : List ℕ) (g : List Arc) (r : Added) : Type 0 where
+  pub came : (state : Pool) → r ≡ Came state → Stands n pool m w state g
+  pub full : r ≡ Full → pool < length g

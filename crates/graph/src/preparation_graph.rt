@@ -19,7 +19,11 @@ ghost use Rattle.graph.specs.Memory.{memory, first, last};
 ghost use Rattle.graph.specs.Stands.{Stands};
 ghost use Rattle.graph.specs.Steps.{follow as followed, append as appended, unlink as unlinked, write, put};
 ghost use Rattle.graph.specs.Walks.{column, Walk, before as before-in, found};
-ghost use Rattle.graph.specs.Promises.{arc, state-of, Room, Open, Takes, Ready, Some, Answers, Reduces, Drops, Clears};
+ghost use mathlib.Core.List.{map};
+ghost use Rattle.rules.specs.Columns.{linkList};
+ghost use Rattle.rules.specs.Build.{link-arc};
+ghost use Rattle.graph.specs.Given.{links};
+ghost use Rattle.graph.specs.Promises.{Spacious, Between, Holds, arc, state-of, Room, Open, Takes, Ready, Some, Answers, Reduces, Drops, Clears};
 
 // What goes with the slices: the first of the freed places, and how many places were ever used.
 pub struct Pool {
@@ -293,4 +297,42 @@ pub fn add_or_reduce_edge(
         weight,
         centre,
     )
+}
+
+// The graph of the links, each at the end of its lists in turn. Full where there are more of them than places.
+pub fn from_input_graph(
+    arcs: &mut [u32],
+    weights: &mut [u64],
+    nodes: &mut [u32],
+    pool: u32,
+    n: usize,
+    tails: &[u32],
+    heads: &[u32],
+    link_weights: &[u32],
+) -> Added
+    requires { ⌜ Spacious n pool (memory (now arcs) (now nodes)) (now weights) × Between n (now tails) (now heads) (now «link_weights») ⌝ }
+    ensures { λ r. ⌜ Holds n pool (memory (now (arcs .exit)) (now (nodes .exit))) (now (weights .exit))
+        (map link-arc (linkList (links (now (tails .entry)) (now (heads .entry)) (now («link_weights» .entry))))) r ⌝ }
+{
+    let mut state = clear(nodes, n);
+    let mut i = 0;
+    while i < tails.len() {
+        let added = add_edge_or_shortcut(
+            arcs,
+            weights,
+            nodes,
+            pool,
+            state,
+            tails[i],
+            heads[i],
+            link_weights[i] as u64,
+            INVALID,
+        );
+        let Added::Arc(next) = added else {
+            return Added::Full;
+        };
+        state = next;
+        i += 1;
+    }
+    Added::Arc(state)
 }
