@@ -50,7 +50,7 @@ links-apart (k ∷ ls) e =
     clash k l (inr p) s t = omega (arith, p .1)
 
 -- a link's weight is a number of its column
-weight-in : (ts hs ws : List ℕ) (l : Link) → In l (zip-links ts hs ws) → In (l .weight) ws
+pub weight-in : (ts hs ws : List ℕ) (l : Link) → In l (zip-links ts hs ws) → In (l .weight) ws
 unfolding zip-links
 weight-in [] hs ws l m = absurd (List·Memᴰ·not-nil m)
 weight-in (t ∷ ts) [] ws l m = absurd (List·Memᴰ·not-nil m)

@@ -1,6 +1,6 @@
 -- What settling a node does to the count of arcs that are paid for, and to what can still leave the heap.
-use mathlib.Core.Path.{_≡_, refl, sym, _∙_, ap}
-use mathlib.Core.Bool.{Bool, true, false, not}
+use mathlib.Core.Path.{_≡_, refl, _∙_, ap}
+use mathlib.Core.Bool.{Bool, true, false}
 use mathlib.Core.List.{List, [], _∷_}
 use Prim.Native.Nat.{ℕ, suc, _+_, _≤_, _<_}
 use native.Mathlib.Omega.{arith}
@@ -8,7 +8,7 @@ use lib.Dec.{eqb, ltb}
 use lib.ListN.{length}
 use borrow.Author.Tests.{eqb-true, eqb-false}
 use Rattle.rules.specs.Lists.{keep, update}
-use Rattle.rules.specs.Heap.{Item, push}
+use Rattle.rules.specs.Heap.{Item}
 use Rattle.rules.specs.Graph.{Arc, leaves, outs}
 use Rattle.rules.specs.Search.{Search, offer, relax, with-heap, mark-settled, settle}
 use Rattle.rules.proofs.Cases.{on-test}

@@ -13,7 +13,7 @@ use Rattle.rules.specs.Numbers.{noWeight}
 use Rattle.rules.specs.Lists.{update}
 use Rattle.rules.proofs.Cases.{on-test}
 use Rattle.rules.proofs.Heaps.{update-same, update-other}
-use Rattle.search.specs.Labels.{stamp, label-at, settled-at, Stamped, Labelled, Reached, put-stamp, put-label, put-settled}
+use Rattle.search.specs.Labels.{stamp, label-at, settled-at, Stamped, Labelled, Reached, kept-stamp, put-label, put-settled}
 
 pub label-seen : (labels : List ℕ) (base v : ℕ) → base ≤ stamp labels v → label-at labels base v ≡ getD labels (2 * v) 0
 unfolding label-at
@@ -81,46 +81,41 @@ module _ {v : ℕ} {labels labels′ : List ℕ} (b : Beside v labels labels′)
             ];
       }
 
--- A label's store.
-module _ (labels : List ℕ) (base v : ℕ) (room : 2 * (v + 1) ≤ length labels) where
-  pub put-stamp-beside : Beside v labels (put-stamp labels base v)
-  unfolding put-stamp
-  put-stamp-beside =
-      on-test (ltb (stamp labels v) base)
-      (λ t. rw (t, put-stamp) (beside-stamp (beside-not v labels) base))
-      (λ t. rw (t, put-stamp) (beside-not v labels))
+-- A label's store: its stamp is of this search, and says no more than before.
+kept-stamp-at : (labels : List ℕ) (base v : ℕ) → (base ≤ kept-stamp labels base v)
+    × (stamp labels v ≤ base + 1 → kept-stamp labels base v ≤ base + 1)
+    × (ltb base (kept-stamp labels base v) ≡ settled-at labels base v)
+unfolding kept-stamp
+kept-stamp-at labels base v =
+    on-test (ltb (stamp labels v) base)
+    (λ t.
+    rw (t, kept-stamp) (
+      omega arith,
+      λ h. omega arith,
+      le-ltb base base (omega arith)
+          ∙ sym (le-ltb base (stamp labels v) (omega (arith, ltb-true (stamp labels v) base t))),
+    ))
+    (λ t. rw (t, kept-stamp) (ltb-false (stamp labels v) base t, λ h. h, refl))
 
-  -- it is of this search, and says no more than before
-  put-stamp-at : (base ≤ stamp (put-stamp labels base v) v)
-      × (stamp labels v ≤ base + 1 → stamp (put-stamp labels base v) v ≤ base + 1)
-      × (settled-at (put-stamp labels base v) base v ≡ settled-at labels base v)
-  unfolding put-stamp
-  put-stamp-at =
-      on-test (ltb (stamp labels v) base)
-      (λ t.
-      let same = getD-set-same labels (2 * v + 1) base 0 (omega arith) in
-      rw (t, put-stamp, same) (
-        omega arith,
-        λ h. omega arith,
-        le-ltb base base (omega arith) ∙ sym (le-ltb base (stamp labels v) (omega (arith, ltb-true (stamp labels v) base t))),
-      ))
-      (λ t. rw (t, put-stamp) (ltb-false (stamp labels v) base t, λ h. h, refl))
+module _ (labels : List ℕ) (base v : ℕ) (room : 2 * (v + 1) ≤ length labels) (weight : ℕ) where
+  put-label-beside : Beside v labels (put-label labels base v weight)
+  unfolding put-label
+  put-label-beside = beside-stamp (beside-weight (beside-not v labels) weight) (kept-stamp labels base v)
 
-  module _ (weight : ℕ) where
-    pub put-label-beside : Beside v labels (put-label labels base v weight)
-    unfolding put-label
-    put-label-beside = beside-weight put-stamp-beside weight
+  put-label-stamp : stamp (put-label labels base v weight) v ≡ kept-stamp labels base v
+  unfolding put-label
+  put-label-stamp =
+      getD-set-same (set labels (2 * v) weight) (2 * v + 1) (kept-stamp labels base v) 0
+      (omega (arith, length-set labels (2 * v) weight))
 
-    put-label-stamp : stamp (put-label labels base v weight) v ≡ stamp (put-stamp labels base v) v
-    unfolding put-label
-    put-label-stamp = getD-set-other (put-stamp labels base v) (2 * v) (2 * v + 1) weight 0 (λ f. omega arith)
+  put-label-weight : getD (put-label labels base v weight) (2 * v) 0 ≡ weight
+  unfolding put-label
+  put-label-weight =
+      getD-set-other (set labels (2 * v) weight) (2 * v + 1) (2 * v) (kept-stamp labels base v) 0 (λ f. omega arith)
+      ∙ getD-set-same labels (2 * v) weight 0 (omega arith)
 
-    put-label-weight : getD (put-label labels base v weight) (2 * v) 0 ≡ weight
-    unfolding put-label
-    put-label-weight = getD-set-same (put-stamp labels base v) (2 * v) weight 0 (omega (arith, put-stamp-beside .long))
-
-    put-label-seen : base ≤ stamp (put-label labels base v weight) v
-    put-label-seen = rw put-label-stamp (put-stamp-at .0)
+  put-label-seen : base ≤ stamp (put-label labels base v weight) v
+  put-label-seen = rw put-label-stamp (kept-stamp-at labels base v .0)
 
 -- A settled node's store.
 module _ (labels : List ℕ) (base v : ℕ) (room : 2 * (v + 1) ≤ length labels) where
@@ -151,7 +146,7 @@ module _ {n base : ℕ} {labels : List ℕ} where
 
     pub labelled-put : (weight : ℕ) → Labelled n (put-label labels base v weight) base (update v weight f) d
     labelled-put weight =
-        let at = put-stamp-at labels base v node-room in
+        let at = kept-stamp-at labels base v in
         let stamped = put-label-stamp labels base v node-room weight in
         beside-labelled (put-label-beside labels base v node-room weight) base l
         (λ k e. update-other v weight f k e)

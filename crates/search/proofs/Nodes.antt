@@ -1,19 +1,19 @@
 -- Laws of a whole node: its out-arcs are a chain of places, and the heap has room for what they offer.
-use mathlib.Core.Path.{_≡_, refl, sym, ap, _∙_}
-use mathlib.Core.List.{List, [], _∷_, map, Memᴰ·append-left}
-use Prim.Native.Nat.{ℕ, suc, _+_, _*_, _<_, _≤_}
+use mathlib.Core.Path.{_≡_, sym, ap, _∙_}
+use mathlib.Core.List.{List, [], map, Memᴰ·append-left}
+use Prim.Native.Nat.{ℕ, _*_, _≤_}
 use native.Mathlib.Nat.{add-zero}
 use native.Mathlib.Omega.{arith}
 use lib.ListN.{length, getD, length-map}
 use Rattle.rules.specs.Lists.{In, keep}
-use Rattle.rules.specs.Graph.{Arc, leaves, outs}
-use Rattle.rules.specs.Search.{Search, mark-settled, relax, settle}
+use Rattle.rules.specs.Graph.{leaves, outs}
+use Rattle.rules.specs.Search.{Search, mark-settled, settle}
 use Rattle.rules.proofs.Members.{in-keep, map-in}
 use Rattle.heap.specs.Items.{pair}
-use Rattle.graph.specs.Memory.{memory, first, arc-at, ends-at}
+use Rattle.graph.specs.Memory.{memory, arc-at, ends-at}
 use Rattle.search.specs.Labels.{put-settled}
 use Rattle.search.specs.Searching.{Searching, World, Standing, Lent}
-use Rattle.search.specs.Promises.{Row, Usable, Relaxing, Relaxed, Settling, Settled}
+use Rattle.search.specs.Promises.{Row, Usable, Relaxing, Relaxed, Settling}
 use Rattle.search.proofs.Chains.{keep-map, keep-length}
 use Rattle.search.proofs.Offers.{marked, relax-marked}
 use Rattle.search.proofs.Rows.{row}

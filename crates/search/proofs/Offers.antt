@@ -1,15 +1,12 @@
 -- Laws of the slices that stand for a search: an offer, a settled node, and an entry that leaves.
 use mathlib.Core.Path.{_≡_, refl, sym, ap, _∙_}
-use mathlib.Core.Logic.{_⊎_, inl, inr}
-use mathlib.Core.Bool.{Bool, true, false}
-use mathlib.Core.List.{List, [], _∷_, List·Memᴰ·head, List·Memᴰ·tail, List·Memᴰ·cases-cons, List·Memᴰ·eq-of-singleton}
-use Prim.Native.Nat.{ℕ, suc, _+_, _*_, _-_, _^_, _<_, _≤_}
+use mathlib.Core.Logic.{inl, inr}
+use mathlib.Core.List.{List, [], _∷_, List·Memᴰ·tail, List·Memᴰ·eq-of-singleton}
+use Prim.Native.Nat.{ℕ, _+_, _*_, _-_, _^_, _<_, _≤_}
 use native.Mathlib.Omega.{arith}
 use lib.Dec.{eqb, ltb}
 use lib.ListN.{length, drop}
 use borrow.Author.Tests.{lt-ltb, le-ltb, eq-eqb, ne-eqb}
-use Rattle.rules.specs.Numbers.{noWeight}
-use Rattle.rules.specs.Lists.{In, update}
 use Rattle.rules.specs.Heap.{Item, push}
 use Rattle.rules.specs.Graph.{Arc}
 use Rattle.rules.specs.Search.{Search, init, offer, relax, with-heap, mark-settled}
@@ -18,11 +15,11 @@ use Rattle.rules.proofs.Heaps.{push-in}
 use Rattle.heap.specs.Items.{pair, item}
 use Rattle.heap.specs.Promises.{Holds, Pushed, Popped}
 use Rattle.heap.proofs.Laws.{holds-none, holds-size, holds-first, holds-push, holds-pop}
-use Rattle.search.specs.Labels.{stamp, label-at, Stamped, Labelled, Reached, put-label, put-settled}
+use Rattle.search.specs.Labels.{label-at, Stamped, Reached, put-label, put-settled}
 use Rattle.search.specs.Turns.{cross}
 use Rattle.search.specs.Searching.{Searching}
 use Rattle.search.proofs.Labels.{labelled-put, reached-put, reached-new, labelled-settled, reached-settled, labelled-none}
-use Rattle.search.proofs.Balance.{relax-cross, cross-grows}
+use Rattle.search.proofs.Balance.{relax-cross}
 
 module _ {n base len : ℕ} {labels heap : List ℕ} {s : Search} (x : Searching n labels heap base len s) where
   pub label-room : (v : ℕ) → v < n → 2 * (v + 1) ≤ length labels

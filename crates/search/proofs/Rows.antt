@@ -1,13 +1,12 @@
 -- Laws of relaxing along a chain of places: what is left of it, and what was done, is the whole.
 use mathlib.Core.Path.{_≡_, refl, sym, ap, _∙_}
 use mathlib.Core.List.{List, [], _∷_, map, List·Memᴰ·head, List·Memᴰ·tail}
-use Prim.Native.Nat.{ℕ, suc, _+_, _*_, _<_, _≤_}
+use Prim.Native.Nat.{ℕ, _+_, _*_, _<_}
 use native.Mathlib.Omega.{arith}
-use lib.ListN.{length, getD, length-map}
+use lib.ListN.{length, getD}
 use Rattle.rules.specs.Numbers.{invalid}
 use Rattle.rules.specs.Lists.{In}
 use Rattle.rules.specs.Heap.{Item}
-use Rattle.rules.specs.Graph.{Arc}
 use Rattle.rules.specs.Search.{Search, relax}
 use Rattle.heap.specs.Items.{pair}
 use Rattle.graph.specs.Memory.{memory, arc-at, Chain}

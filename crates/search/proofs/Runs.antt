@@ -1,7 +1,6 @@
 -- Laws of the whole loop: in its midst the rest of the run comes to what the run from the start does.
-use mathlib.Core.Path.{_≡_, refl, sym, ap, _∙_}
-use mathlib.Core.Bool.{Bool, true, false, _||_}
-use mathlib.Core.List.{List}
+use mathlib.Core.Path.{_≡_, sym, ap, _∙_}
+use mathlib.Core.Bool.{Bool, true, false}
 use Prim.Native.Nat.{ℕ, suc, _+_, _-_, _<_, _≤_}
 use native.Mathlib.Omega.{arith}
 use lib.ListN.{length}
@@ -9,10 +8,10 @@ use Rattle.rules.specs.Search.{Search, run, search-fuel}
 use Rattle.routes.proofs.SearchBounds.{left, search-fuel-enough}
 use Rattle.search.specs.declared.witness_search.Progress.{Progress}
 use Rattle.search.specs.Turns.{Turn, turn}
-use Rattle.search.specs.Searching.{World, Lent, Ready}
+use Rattle.search.specs.Searching.{World, Lent}
 use Rattle.search.specs.Promises.{Asked, Turned, Ran}
 use Rattle.search.proofs.Balance.{paid-most}
-use Rattle.search.proofs.Turns.{after, turn-less, run-turn, same-fuel}
+use Rattle.search.proofs.Turns.{turn-less, run-turn, same-fuel}
 use Rattle.search.proofs.Nodes.{graph-many}
 
 -- no more can leave than `most`, and what is to come is what came from s

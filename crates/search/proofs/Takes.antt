@@ -2,20 +2,20 @@
 use mathlib.Core.Path.{_≡_, refl, sym, ap, _∙_}
 use mathlib.Core.Bool.{Bool, true, false, not, _||_}
 use mathlib.Core.List.{List, [], _∷_, List·Memᴰ·head}
-use Prim.Native.Nat.{ℕ, suc, _+_, _*_, _-_, _<_, _≤_}
+use Prim.Native.Nat.{ℕ, _+_, _-_, _<_, _≤_}
 use native.Mathlib.Omega.{arith}
-use lib.Dec.{eqb, ltb, leb}
+use lib.Dec.{eqb, leb}
 use lib.ListN.{length, drop}
 use borrow.Author.Tests.{lt-ltb, le-ltb, lt-leb, le-leb}
 use Rattle.rules.specs.Heap.{Item}
-use Rattle.rules.specs.Search.{Search, with-heap, settle, reached}
+use Rattle.rules.specs.Search.{Search, with-heap, reached}
 use Rattle.heap.specs.Items.{item}
 use Rattle.heap.specs.Promises.{Popped}
 use Rattle.heap.proofs.Laws.{holds-first}
 use Rattle.search.specs.declared.witness_search.Progress.{Progress}
 use Rattle.search.specs.Labels.{label-at, settled-at, Reached}
-use Rattle.search.specs.Turns.{Turn, stop, take, turn}
-use Rattle.search.specs.Searching.{Searching, World, Lent, with-slices, Ready}
+use Rattle.search.specs.Turns.{Turn, stop, turn}
+use Rattle.search.specs.Searching.{Searching, World, Lent, with-slices}
 use Rattle.search.specs.Promises.{Settling, Settled, Asked, Taking, Taken, Turned}
 use Rattle.search.proofs.Balance.{passed-paid, settle-paid, settle-room, settle-count}
 use Rattle.search.proofs.Turns.{entry-passed, entry-settled, turn-empty, turn-limited, turn-heavy, turn-takes}

@@ -1,17 +1,16 @@
 -- Laws of one turn: `run` is turns, and each leaves less that can leave.
 use mathlib.Core.Path.{_≡_, refl, sym, _∙_, ap}
-use mathlib.Core.Bool.{Bool, true, false, not, true≢false, false≢true}
+use mathlib.Core.Bool.{true, false, not, false≢true}
 use mathlib.Core.List.{List, [], _∷_}
-use Prim.Native.Nat.{ℕ, zero, suc, _+_, _-_, _≤_, _<_}
+use Prim.Native.Nat.{ℕ, zero, suc, _+_, _-_, _<_}
 use native.Mathlib.Omega.{arith}
 use lib.Dec.{ltb, leb}
-use lib.ListN.{length}
 use borrow.Author.Tests.{leb-true, leb-false}
 use Rattle.rules.specs.Heap.{Item}
 use Rattle.rules.specs.Graph.{Arc}
-use Rattle.rules.specs.Search.{Search, with-heap, settle, reached, run, search-fuel}
+use Rattle.rules.specs.Search.{Search, with-heap, settle, reached, run}
 use Rattle.rules.proofs.Cases.{on-test}
-use Rattle.routes.proofs.SearchBounds.{Paid, left, run-enough, search-fuel-enough}
+use Rattle.routes.proofs.SearchBounds.{Paid, left, run-enough}
 use Rattle.search.specs.Turns.{Turn, stop, entry, take-from, take, turn-from, turn}
 use Rattle.search.proofs.Balance.{passed-paid, passed-left, settle-paid, settle-left}
 

@@ -34,11 +34,11 @@ pub record Reached (n : ℕ) (labels : List ℕ) (base v : ℕ) : Type 0 where
   pub stamped : base ≤ stamp labels v
 
 -- the stamp that a label leaves: a settled node stays settled
-unfoldable pub put-stamp : List ℕ → ℕ → ℕ → List ℕ
-put-stamp labels base v = elim (ltb (stamp labels v) base) [ true ↦ set labels (2 * v + 1) base | false ↦ labels ]
+unfoldable pub kept-stamp : List ℕ → ℕ → ℕ → ℕ
+kept-stamp labels base v = elim (ltb (stamp labels v) base) [ true ↦ base | false ↦ stamp labels v ]
 
 unfoldable pub put-label : List ℕ → ℕ → ℕ → ℕ → List ℕ
-put-label labels base v weight = set (put-stamp labels base v) (2 * v) weight
+put-label labels base v weight = set (set labels (2 * v) weight) (2 * v + 1) (kept-stamp labels base v)
 
 unfoldable pub put-settled : List ℕ → ℕ → ℕ → List ℕ
 put-settled labels base v = set labels (2 * v + 1) (base + 1)

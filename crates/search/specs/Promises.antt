@@ -6,12 +6,11 @@ use Prim.Native.Nat.{ℕ, _+_, _*_, _^_, _<_, _≤_}
 use lib.ListN.{length, getD}
 use Rattle.rules.specs.Numbers.{invalid, maxWeight}
 use Rattle.rules.specs.Lists.{In}
-use Rattle.rules.specs.Heap.{Item}
 use Rattle.rules.specs.Graph.{outs}
 use Rattle.rules.specs.Search.{Search, init, offer, relax, settle, run, search-fuel, find-max-weight}
 use Rattle.heap.specs.Items.{pair, item, items}
 use Rattle.heap.specs.Shape.{Ordered}
-use Rattle.graph.specs.Memory.{memory, at, arc-at, Chain}
+use Rattle.graph.specs.Memory.{memory, arc-at, Chain}
 use Rattle.search.specs.declared.witness_search.WitnessSearch.{WitnessSearch}
 use Rattle.search.specs.declared.witness_search.Found.{Found}
 use Rattle.search.specs.declared.witness_search.Progress.{Progress}
@@ -131,7 +130,7 @@ Runs m labels heap base avoid len count target sum limit r =
 -- the answer, and the search as it was left for the next target
 pub record Answered (m : Lent) (search : WitnessSearch) (target sum limit : ℕ) (r : Found) (w : World) (s : Search) : Type 0 where
   pub weight : r .weight ≡ find-max-weight (w .graph) (search .avoid) limit target sum s .weight
-  pub ready : Ready w m (search .base) (r .search .len) (r .search .settled) (find-max-weight (w .graph) (search .avoid) limit target sum s .search)
+  pub ready : Ready w m (r .search .base) (r .search .len) (r .search .settled) (find-max-weight (w .graph) (search .avoid) limit target sum s .search)
   pub base : r .search .base ≡ search .base
   pub avoid : r .search .avoid ≡ search .avoid
 

@@ -22,6 +22,7 @@ pub struct WitnessSearch {
     pub avoid: u32,
 }
 
+// The answer, and the search for the next target.
 pub struct Found {
     pub weight: u64,
     pub search: WitnessSearch,
@@ -53,15 +54,17 @@ fn is_settled(labels: &[u64], base: u64, v: usize) -> bool
     base < labels[2 * v + 1]
 }
 
-// A settled node stays settled: only a stamp of an earlier search changes.
+// A settled node stays settled: only a stamp of an earlier search changes. It is stored either way, so that no branch is guessed.
 fn update_node(labels: &mut [u64], base: u64, v: usize, weight: u64)
     requires { ⌜ 2 * (v + 1) ≤ length (now labels) ⌝ }
     ensures { λ _. ⌜ now (labels .exit) ≡ put-label (now (labels .entry)) base v weight ⌝ }
 {
-    if labels[2 * v + 1] < base {
-        labels[2 * v + 1] = base;
+    let mut stamp = labels[2 * v + 1];
+    if stamp < base {
+        stamp = base;
     }
     labels[2 * v] = weight;
+    labels[2 * v + 1] = stamp;
 }
 
 // Labels only fall. Returns how many entries the heap then has.
@@ -103,7 +106,8 @@ fn relax_arc(
     offer(labels, heap, base, len, head as usize, weight)
 }
 
-// The arcs of the chain from `first` on, which leave a node that left the heap with `weight`.
+// The arcs of the chain from `first` on, which leave a node that left the heap with `weight`. The next place is read first, so that
+// it is at hand when the arc is done.
 fn relax(
     arcs: &[u32],
     weights: &[u64],
@@ -122,6 +126,7 @@ fn relax(
     let mut place = first;
     while place != INVALID {
         let i = place as usize;
+        place = arcs[6 * i + 3];
         len = relax_arc(
             labels,
             heap,
@@ -131,7 +136,6 @@ fn relax(
             arcs[6 * i + 1],
             weight + weights[i],
         );
-        place = arcs[6 * i + 3];
     }
     len
 }
@@ -166,7 +170,7 @@ fn settle(
     )
 }
 
-// After v: whether the target was labelled within the limit or is v.
+// Whether the search stops after v: the target was labelled within the limit, or is v.
 fn reached(labels: &[u64], base: u64, v: usize, target: usize, weight_limit: u64) -> bool
     requires { ⌜ 2 * (target + 1) ≤ length (now labels) ⌝ }
     ensures { λ r. ⌜ r ≡ (leb (label-at (now (labels .entry)) base target) «weight_limit» || eqb v target) ⌝ }
@@ -222,7 +226,8 @@ fn take(
     }
 }
 
-// The search stops, tested in this order, with its heap empty, its settled count at the limit, or the next weight above the limit.
+// One turn. The search stops, tested in this order, with its heap empty, its settled count at `settled_nodes_limit`, or the next
+// weight above `weight_limit`.
 fn turn(
     arcs: &[u32],
     weights: &[u64],
@@ -393,7 +398,6 @@ pub fn init(
     }
 }
 
-// Labels may hold anything before the first search: their stamps are cleared, once.
 fn clear_labels(labels: &mut [u64], num_nodes: usize)
     requires { ⌜ 2 * «num_nodes» ≤ length (now labels) ⌝ }
     ensures { λ _. ⌜ Stamped «num_nodes» (now (labels .exit)) 0 ⌝ }
@@ -405,6 +409,7 @@ fn clear_labels(labels: &mut [u64], num_nodes: usize)
     }
 }
 
+// Before the first search labels may hold anything: their stamps are cleared, once.
 pub fn new(labels: &mut [u64], num_nodes: usize) -> WitnessSearch
     requires { ⌜ 2 * «num_nodes» ≤ length (now labels) ⌝ }
     ensures { λ r. ⌜ (r .base ≡ 0) × Stamped «num_nodes» (now (labels .exit)) 0 ⌝ }

@@ -39,48 +39,48 @@ loop-holds c = (refl, refl, λ r s x. rest-all x)
 cast-i : tie.Need-cast-i Inv-loop μ-loop
 cast-i c = omega (arith, usable c .valid)
 
-mul-relax-arc : tie.Need-mul-relax-arc Inv-loop μ-loop
-mul-relax-arc c = omega (arith, usable (c .before .before) .arc-room)
-
-add-relax-arc : tie.Need-add-relax-arc Inv-loop μ-loop
-add-relax-arc c = omega (arith, usable (c .before .before) .arc-room)
-
-mul-relax-arc-2 : tie.Need-mul-relax-arc-2 Inv-loop μ-loop
-mul-relax-arc-2 c = omega (arith, usable (c .before .before) .arc-room)
-
-shared-slice-read-relax-arc : tie.Need-shared-slice-read-relax-arc Inv-loop μ-loop
-shared-slice-read-relax-arc c = omega (arith, usable (c .before .before .before) .arc-room)
-
-mul-relax-arc-3 : tie.Need-mul-relax-arc-3 Inv-loop μ-loop
-mul-relax-arc-3 c = omega (arith, usable (c .before .before .before) .weight-room)
-
-shared-slice-read-relax-arc-2 : tie.Need-shared-slice-read-relax-arc-2 Inv-loop μ-loop
-shared-slice-read-relax-arc-2 c = omega (arith, usable (c .before .before .before .before) .weight-room)
-
-add-relax-arc-2 : tie.Need-add-relax-arc-2 Inv-loop μ-loop
-add-relax-arc-2 c = omega (arith, usable (c .before .before .before .before) .light, rest (c .before .before .before .before .before) .relaxing .light)
-
-relax-arc-requires : tie.Need-relax-arc-requires Inv-loop μ-loop
-relax-arc-requires c κs = first-offering (rest (c .before .before .before .before .before) .relaxing) (c .before .before .before .before .loop-test .taken)
-
 mul-place : tie.Need-mul-place Inv-loop μ-loop
-mul-place c = omega (arith, usable (c .before .before .before .before .before .before .before .before .before) .arc-room)
+mul-place c = omega (arith, usable c .arc-room)
 
 add-place : tie.Need-add-place Inv-loop μ-loop
-add-place c = omega (arith, usable (c .before .before .before .before .before .before .before .before .before) .arc-room)
+add-place c = omega (arith, usable c .arc-room)
 
 mul-place-2 : tie.Need-mul-place-2 Inv-loop μ-loop
-mul-place-2 c = omega (arith, usable (c .before .before .before .before .before .before .before .before .before) .arc-room)
+mul-place-2 c = omega (arith, usable c .arc-room)
 
 shared-slice-read-place : tie.Need-shared-slice-read-place Inv-loop μ-loop
-shared-slice-read-place c = omega (arith, usable (c .before .before .before .before .before .before .before .before .before .before) .arc-room)
+shared-slice-read-place c = omega (arith, usable (c .before) .arc-room)
+
+mul-relax-arc : tie.Need-mul-relax-arc Inv-loop μ-loop
+mul-relax-arc c = omega (arith, usable (c .before .before .before) .arc-room)
+
+add-relax-arc : tie.Need-add-relax-arc Inv-loop μ-loop
+add-relax-arc c = omega (arith, usable (c .before .before .before) .arc-room)
+
+mul-relax-arc-2 : tie.Need-mul-relax-arc-2 Inv-loop μ-loop
+mul-relax-arc-2 c = omega (arith, usable (c .before .before .before) .arc-room)
+
+shared-slice-read-relax-arc : tie.Need-shared-slice-read-relax-arc Inv-loop μ-loop
+shared-slice-read-relax-arc c = omega (arith, usable (c .before .before .before .before) .arc-room)
+
+mul-relax-arc-3 : tie.Need-mul-relax-arc-3 Inv-loop μ-loop
+mul-relax-arc-3 c = omega (arith, usable (c .before .before .before .before) .weight-room)
+
+shared-slice-read-relax-arc-2 : tie.Need-shared-slice-read-relax-arc-2 Inv-loop μ-loop
+shared-slice-read-relax-arc-2 c = omega (arith, usable (c .before .before .before .before .before) .weight-room)
+
+add-relax-arc-2 : tie.Need-add-relax-arc-2 Inv-loop μ-loop
+add-relax-arc-2 c = omega (arith, usable (c .before .before .before .before .before) .light, rest (c .before .before .before .before .before .before) .relaxing .light)
+
+relax-arc-requires : tie.Need-relax-arc-requires Inv-loop μ-loop
+relax-arc-requires c κs = first-offering (rest (c .before .before .before .before .before .before) .relaxing) (c .before .before .before .before .before .loop-test .taken)
 
 loop-less : tie.Need-loop-less Inv-loop μ-loop
 loop-less c = walk-falls (rest (c .before .before .before .before .before .before .before .before .before .before .before) .relaxing) (c .before .before .before .before .before .before .before .before .before .before .loop-test .taken)
 
 loop-again : tie.Need-loop-again Inv-loop μ-loop
 loop-again c =
-    let crossed = c .before .before .before .before .before in
+    let crossed = c .before .before .before .before in
     let on = c .before .before .before .before .before .before .before .before .before .before in
     let l = on .before in (
       crossed .relax-arc .kept .0 ∙ l .loop .inv .0,
@@ -106,6 +106,10 @@ relax-spec =
     μ-loop
     loop-holds
     cast-i
+    mul-place
+    add-place
+    mul-place-2
+    shared-slice-read-place
     mul-relax-arc
     add-relax-arc
     mul-relax-arc-2
@@ -114,10 +118,6 @@ relax-spec =
     shared-slice-read-relax-arc-2
     add-relax-arc-2
     relax-arc-requires
-    mul-place
-    add-place
-    mul-place-2
-    shared-slice-read-place
     loop-less
     loop-again
     same-length
