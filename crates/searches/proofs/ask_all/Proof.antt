@@ -1,0 +1,130 @@
+-- The invariant: some graph and some search stand, and every target can be asked for.
+use mathlib.Core.Path.{_≡_, refl, sym, _∙_, ap}
+use Prim.Native.Nat.{ℕ, _-_, _≤_}
+use native.Mathlib.Omega.{arith}
+use lib.ListN.{length}
+use Rattle.rules.specs.Search.{Search}
+use Rattle.search.specs.Searching.{World, lent, Ready}
+use Rattle.searches.specs.Fits.{Askable}
+use borrow.Author.Needs.{needs}
+use Rattle.searches.proofs.ask_all.Statement.{statement}
+use Rattle.searches.proofs.ask_all.Tie as tie
+use Rattle.searches.proofs.ask_all.Reads as reads
+use Rattle.searches.proofs.ask_all.Lts as lts
+use Rattle.search.proofs.witness_search.find_max_weight.Reads as find-max-weight-reads
+
+abbrev Inv-loop : tie.InvT-loop
+Inv-loop arcs weights nodes labels₀ heap₀ limit targets sums answers₀ counts₀ search₀ k₀ labels heap answers counts search k =
+    (k ≤ length targets) × (length labels ≡ length labels₀) × (length heap ≡ length heap₀) × (length answers ≡ length answers₀) ×
+    (length counts ≡ length counts₀) ×
+    ((w : World) × (s : Search) × Ready w (lent arcs weights nodes labels heap) (search .base) (search .len) (search .settled) s ×
+      Askable (w .n) targets sums (length answers₀) (length counts₀))
+
+abbrev μ-loop : tie.MeasureT-loop
+μ-loop arcs weights nodes labels₀ heap₀ limit targets sums answers₀ counts₀ search₀ k₀ labels heap answers counts search k = length targets - k
+
+loop-holds : tie.Need-loop-holds Inv-loop μ-loop
+loop-holds c = (omega arith, refl, refl, refl, refl, c .before .before .before .before .before .before .before .before .before .pre)
+
+mul-find-max-weight : tie.Need-mul-find-max-weight Inv-loop μ-loop
+mul-find-max-weight c = search needs
+
+shared-slice-read-find-max-weight : tie.Need-shared-slice-read-find-max-weight Inv-loop μ-loop
+shared-slice-read-find-max-weight c = search needs
+
+mul-find-max-weight-2 : tie.Need-mul-find-max-weight-2 Inv-loop μ-loop
+mul-find-max-weight-2 c = search needs
+
+shared-slice-read-find-max-weight-2 : tie.Need-shared-slice-read-find-max-weight-2 Inv-loop μ-loop
+shared-slice-read-find-max-weight-2 c = search needs
+
+find-max-weight-requires : tie.Need-find-max-weight-requires Inv-loop μ-loop
+find-max-weight-requires c κs =
+    let loop = c .before .before .before .before .before .loop in
+    let below = c .before .before .before .before .loop-test .taken in
+    let here = loop .inv .5 in
+    ( here .0,
+      here .1,
+      record {
+        ready = here .2;
+        inside = here .3 .inside (loop .k) below;
+        small = here .3 .small (loop .k) below
+      } )
+
+mul-answers : tie.Need-mul-answers Inv-loop μ-loop
+mul-answers c = omega (arith, c .before .before .before .before .before .before .before .before .before .loop-test .taken, c .before .before .before .before .before .before .before .before .before .before .before .before .before .before .before .before .before .before .before .before)
+
+slice-write-answers : tie.Need-slice-write-answers Inv-loop μ-loop
+slice-write-answers c = search needs
+
+mul-counts : tie.Need-mul-counts Inv-loop μ-loop
+mul-counts c = omega (arith, c .before .before .before .before .before .before .before .before .before .loop-test .taken, c .before .before .before .before .before .before .before .before .before .before .before .before .before .before .before .before .before .before .before .before)
+
+slice-write-counts : tie.Need-slice-write-counts Inv-loop μ-loop
+slice-write-counts c = search needs
+
+add-k : tie.Need-add-k Inv-loop μ-loop
+add-k c = omega (arith, c .before .before .before .before .before .before .before .before .before .before .loop-test .taken, c .before .before .before .before .before .before .before .before .before .before .before .before .before .before .before .before .before .before .before .before .before)
+
+loop-less : tie.Need-loop-less Inv-loop μ-loop
+loop-less c = search needs
+
+loop-again : tie.Need-loop-again Inv-loop μ-loop
+loop-again c = 
+    let loop = c .before .before .before .before .before .before .before .before .before .before .before .loop in
+    let below = c .before .before .before .before .before .before .before .before .before .before .loop-test .taken in
+    let here = loop .inv .5 in
+    let answered =
+      c .before .before .before .before .before .find-max-weight .ensures (here .0) (here .1)
+        (record {
+          ready = here .2;
+          inside = here .3 .inside (loop .k) below;
+          small = here .3 .small (loop .k) below
+        })
+    in
+    ( omega (arith, below),
+      search needs,
+      search needs,
+      search needs,
+      search needs,
+      (here .0, _, answered .ready, here .3) )
+
+same-length : tie.Need-same-length Inv-loop μ-loop
+same-length c = search needs
+
+same-length-2 : tie.Need-same-length-2 Inv-loop μ-loop
+same-length-2 c = search needs
+
+same-length-3 : tie.Need-same-length-3 Inv-loop μ-loop
+same-length-3 c = search needs
+
+same-length-4 : tie.Need-same-length-4 Inv-loop μ-loop
+same-length-4 c = search needs
+
+returns : tie.Need-returns Inv-loop μ-loop
+returns c = search needs
+
+pub ask-all-spec : {M : Type 1} → statement M
+ask-all-spec =
+    tie.close
+    (tie.spec
+    Inv-loop
+    μ-loop
+    loop-holds
+    mul-find-max-weight
+    shared-slice-read-find-max-weight
+    mul-find-max-weight-2
+    shared-slice-read-find-max-weight-2
+    find-max-weight-requires
+    mul-answers
+    slice-write-answers
+    mul-counts
+    slice-write-counts
+    add-k
+    loop-less
+    loop-again
+    same-length
+    same-length-2
+    same-length-3
+    same-length-4
+    returns)

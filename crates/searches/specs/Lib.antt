@@ -1,0 +1,2 @@
+-- What the tests of what is handed in show.
+pub mod Fits

@@ -1,0 +1,215 @@
+// Witness searches over a graph that is handed in as links, for tests and for timing. What the crates below ask of their callers
+// is tested here, so that anything may be handed in.
+ghost use mathlib.Core.Bool.{true, false};
+ghost use mathlib.Core.Path.{_≡_};
+ghost use Prim.Native.Nat.{ℕ, _<_};
+ghost use lib.ListN.{length};
+ghost use Rattle.rules.specs.Search.{Search};
+ghost use Rattle.graph.specs.Promises.{Between};
+ghost use Rattle.search.specs.Searching.{World, lent, Ready};
+ghost use Rattle.searches.specs.Fits.{Enough, Askable, Ground};
+use graph::preparation_graph::Added;
+use rules::{INVALID, MAX_WEIGHT};
+use search::witness_search::WitnessSearch;
+
+// So many searches, and more than any run makes: their stamps fit.
+const BASE_MAX: u64 = 1000000000000000000;
+
+// Whether the columns are links between n nodes. Loops and order do not matter to a search.
+fn links_fit(n: usize, tails: &[u32], heads: &[u32], weights: &[u32]) -> bool
+    ensures { λ r. ⌜ (r ≡ true → Between n (now (tails .entry)) (now (heads .entry)) (now (weights .entry))) ⌝ }
+{
+    let count = tails.len();
+    if heads.len() != count {
+        return false;
+    }
+    if weights.len() != count {
+        return false;
+    }
+    let mut i = 0;
+    while i < count {
+        if n <= tails[i] as usize {
+            return false;
+        }
+        if n <= heads[i] as usize {
+            return false;
+        }
+        i += 1;
+    }
+    true
+}
+
+// Whether slices of these lengths are enough for n nodes and a place for each link.
+fn lent_fits(n: usize, pool: usize, arcs: usize, weights: usize, nodes: usize, labels: usize, heap: usize) -> bool
+    ensures { λ r. ⌜ (r ≡ true → Enough n pool arcs weights nodes labels heap) ⌝ }
+{
+    if 1048576 < n {
+        return false;
+    }
+    if 16777216 < pool {
+        return false;
+    }
+    if arcs < 6 * pool {
+        return false;
+    }
+    if weights < pool {
+        return false;
+    }
+    if nodes < 4 * n {
+        return false;
+    }
+    if labels < 2 * n {
+        return false;
+    }
+    2 * (pool + 1) <= heap
+}
+
+// Whether each target is a node and each sum small enough, and there is a place for each answer and count.
+fn asks_fit(n: usize, targets: &[u32], sums: &[u64], answers: usize, counts: usize) -> bool
+    ensures { λ r. ⌜ (r ≡ true → Askable n (now (targets .entry)) (now (sums .entry)) answers counts) ⌝ }
+{
+    let asks = targets.len();
+    if sums.len() != asks {
+        return false;
+    }
+    if answers < asks {
+        return false;
+    }
+    if counts < asks {
+        return false;
+    }
+    let mut k = 0;
+    while k < asks {
+        if n <= targets[k] as usize {
+            return false;
+        }
+        if MAX_WEIGHT < sums[k] {
+            return false;
+        }
+        k += 1;
+    }
+    true
+}
+
+// One start for all targets: answers and settled counts.
+fn ask_all(arcs: &[u32], weights: &[u64], nodes: &[u32], labels: &mut [u64], heap: &mut [u64], search: WitnessSearch, limit: u32, targets: &[u32], sums: &[u64], answers: &mut [u64], counts: &mut [u64])
+    requires {
+        ⌜ ((w : World) × (s : Search) × Ready w (lent (now arcs) (now weights) (now nodes) (now labels) (now heap)) (search .base) (search .len) (search .settled) s ×
+            Askable (w .n) (now targets) (now sums) (length (now answers)) (length (now counts))) ⌝
+    }
+{
+    let mut search = search;
+    let mut k = 0;
+    while k < targets.len() {
+        let found = search::witness_search::find_max_weight(arcs, weights, nodes, labels, heap, search, targets[k], sums[k], limit);
+        answers[k] = found.weight;
+        counts[k] = found.search.settled;
+        search = found.search;
+        k += 1;
+    }
+}
+
+// A search of its own from `start`, which avoids `avoid`, for all targets.
+fn ask_from(arcs: &[u32], weights: &[u64], nodes: &[u32], labels: &mut [u64], heap: &mut [u64], fresh: WitnessSearch, start: u32, avoid: u32, limit: u32, targets: &[u32], sums: &[u64], answers: &mut [u64], counts: &mut [u64])
+    requires {
+        ⌜ ((n : ℕ) × Ground n (now arcs) (now weights) (now nodes) (now labels) (length (now heap)) (fresh .base) × (start < n) ×
+            Askable n (now targets) (now sums) (length (now answers)) (length (now counts))) ⌝
+    }
+{
+    let search = search::witness_search::init(labels, heap, fresh, start, avoid);
+    ask_all(arcs, weights, nodes, labels, heap, search, limit, targets, sums, answers, counts);
+}
+
+// The links' graph in the slices, and labels that no search has touched yet.
+struct Begun {
+    ok: bool,
+    search: WitnessSearch,
+}
+
+fn refused() -> Begun
+    ensures { λ r. ⌜ r .ok ≡ false ⌝ }
+{
+    Begun {
+        ok: false,
+        search: WitnessSearch {
+            base: 0,
+            len: 0,
+            settled: 0,
+            avoid: INVALID,
+        },
+    }
+}
+
+fn begin(
+    n: usize,
+    tails: &[u32],
+    heads: &[u32],
+    link_weights: &[u32],
+    arcs: &mut [u32],
+    weights: &mut [u64],
+    nodes: &mut [u32],
+    labels: &mut [u64],
+    heap: usize,
+) -> Begun
+    ensures {
+        λ r. ⌜ (r .ok ≡ true → Ground n (now (arcs .exit)) (now (weights .exit)) (now (nodes .exit)) (now (labels .exit)) heap (r .search .base)) ⌝
+    }
+{
+    let pool = tails.len();
+    if !links_fit(n, tails, heads, link_weights) {
+        return refused();
+    }
+    if !lent_fits(n, pool, arcs.len(), weights.len(), nodes.len(), labels.len(), heap) {
+        return refused();
+    }
+    let added = graph::preparation_graph::from_input_graph(
+        arcs,
+        weights,
+        nodes,
+        pool as u32,
+        n,
+        tails,
+        heads,
+        link_weights,
+    );
+    let Added::Arc(_) = added else {
+        return refused();
+    };
+    let search = search::witness_search::new(labels, n);
+    Begun { ok: true, search }
+}
+
+// A search from `start` that avoids `avoid`, over the links, for each target and sum in turn. False where something handed in
+// does not fit, and then nothing is answered.
+#[no_mangle]
+pub extern "C" fn witness_searches(
+    n: usize,
+    tails: &[u32],
+    heads: &[u32],
+    link_weights: &[u32],
+    start: u32,
+    avoid: u32,
+    limit: u32,
+    targets: &[u32],
+    sums: &[u64],
+    answers: &mut [u64],
+    counts: &mut [u64],
+    arcs: &mut [u32],
+    weights: &mut [u64],
+    nodes: &mut [u32],
+    labels: &mut [u64],
+    heap: &mut [u64],
+) -> bool {
+    if n <= start as usize {
+        return false;
+    }
+    if !asks_fit(n, targets, sums, answers.len(), counts.len()) {
+        return false;
+    }
+    let begun = begin(n, tails, heads, link_weights, arcs, weights, nodes, labels, heap.len());
+    if !begun.ok {
+        return false;
+    }
+    ask_from(arcs, weights, nodes, labels, heap, begun.search, start, avoid, limit, targets, sums, answers, counts);
+    true
+}
