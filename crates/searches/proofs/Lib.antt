@@ -1,2 +1,3 @@
 -- Laws that several proofs cite.
 pub mod Light
+pub mod Rounds

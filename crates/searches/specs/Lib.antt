@@ -1,2 +1,4 @@
 -- What the tests of what is handed in show.
 pub mod Fits
+-- What a run over pairs keeps, search after search.
+pub mod Rounds

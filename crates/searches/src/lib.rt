@@ -2,14 +2,18 @@
 // is tested here, so that anything may be handed in.
 ghost use mathlib.Core.Bool.{true, false};
 ghost use mathlib.Core.Path.{_≡_};
-ghost use Prim.Native.Nat.{ℕ, _<_};
+ghost use Prim.Native.Nat.{ℕ, _<_, _≤_};
 ghost use lib.ListN.{length};
+ghost use Rattle.rules.specs.Numbers.{maxWeight};
 ghost use Rattle.rules.specs.Search.{Search};
 ghost use Rattle.graph.specs.Promises.{Between};
+ghost use Rattle.search.specs.Labels.{Stamped};
 ghost use Rattle.search.specs.Searching.{World, lent, Ready};
 ghost use Rattle.searches.specs.Fits.{Enough, Askable, Ground};
+ghost use Rattle.searches.specs.Rounds.{Going, Went, Resting};
 use graph::preparation_graph::Added;
-use rules::{INVALID, MAX_WEIGHT};
+use rules::INVALID;
+use rules::MAX_WEIGHT;
 use search::witness_search::WitnessSearch;
 
 // So many searches, and more than any run makes: their stamps fit.
@@ -40,7 +44,15 @@ fn links_fit(n: usize, tails: &[u32], heads: &[u32], weights: &[u32]) -> bool
 }
 
 // Whether slices of these lengths are enough for n nodes and a place for each link.
-fn lent_fits(n: usize, pool: usize, arcs: usize, weights: usize, nodes: usize, labels: usize, heap: usize) -> bool
+fn lent_fits(
+    n: usize,
+    pool: usize,
+    arcs: usize,
+    weights: usize,
+    nodes: usize,
+    labels: usize,
+    heap: usize,
+) -> bool
     ensures { λ r. ⌜ (r ≡ true → Enough n pool arcs weights nodes labels heap) ⌝ }
 {
     if 1048576 < n {
@@ -92,16 +104,36 @@ fn asks_fit(n: usize, targets: &[u32], sums: &[u64], answers: usize, counts: usi
 }
 
 // One start for all targets: answers and settled counts.
-fn ask_all(arcs: &[u32], weights: &[u64], nodes: &[u32], labels: &mut [u64], heap: &mut [u64], search: WitnessSearch, limit: u32, targets: &[u32], sums: &[u64], answers: &mut [u64], counts: &mut [u64])
-    requires {
-        ⌜ ((w : World) × (s : Search) × Ready w (lent (now arcs) (now weights) (now nodes) (now labels) (now heap)) (search .base) (search .len) (search .settled) s ×
-            Askable (w .n) (now targets) (now sums) (length (now answers)) (length (now counts))) ⌝
-    }
+fn ask_all(
+    arcs: &[u32],
+    weights: &[u64],
+    nodes: &[u32],
+    labels: &mut [u64],
+    heap: &mut [u64],
+    search: WitnessSearch,
+    limit: u32,
+    targets: &[u32],
+    sums: &[u64],
+    answers: &mut [u64],
+    counts: &mut [u64],
+)
+    requires { ⌜ ((w : World) × (s : Search) × Ready w (lent (now arcs) (now weights) (now nodes) (now labels) (now heap)) (search .base) (search .len) (search .settled) s ×
+        Askable (w .n) (now targets) (now sums) (length (now answers)) (length (now counts))) ⌝ }
 {
     let mut search = search;
     let mut k = 0;
     while k < targets.len() {
-        let found = search::witness_search::find_max_weight(arcs, weights, nodes, labels, heap, search, targets[k], sums[k], limit);
+        let found = search::witness_search::find_max_weight(
+            arcs,
+            weights,
+            nodes,
+            labels,
+            heap,
+            search,
+            targets[k],
+            sums[k],
+            limit,
+        );
         answers[k] = found.weight;
         counts[k] = found.search.settled;
         search = found.search;
@@ -110,14 +142,38 @@ fn ask_all(arcs: &[u32], weights: &[u64], nodes: &[u32], labels: &mut [u64], hea
 }
 
 // A search of its own from `start`, which avoids `avoid`, for all targets.
-fn ask_from(arcs: &[u32], weights: &[u64], nodes: &[u32], labels: &mut [u64], heap: &mut [u64], fresh: WitnessSearch, start: u32, avoid: u32, limit: u32, targets: &[u32], sums: &[u64], answers: &mut [u64], counts: &mut [u64])
-    requires {
-        ⌜ ((n : ℕ) × Ground n (now arcs) (now weights) (now nodes) (now labels) (length (now heap)) (fresh .base) × (start < n) ×
-            Askable n (now targets) (now sums) (length (now answers)) (length (now counts))) ⌝
-    }
+fn ask_from(
+    arcs: &[u32],
+    weights: &[u64],
+    nodes: &[u32],
+    labels: &mut [u64],
+    heap: &mut [u64],
+    fresh: WitnessSearch,
+    start: u32,
+    avoid: u32,
+    limit: u32,
+    targets: &[u32],
+    sums: &[u64],
+    answers: &mut [u64],
+    counts: &mut [u64],
+)
+    requires { ⌜ ((n : ℕ) × Ground n (now arcs) (now weights) (now nodes) (now labels) (length (now heap)) (fresh .base) × (start < n) ×
+        Askable n (now targets) (now sums) (length (now answers)) (length (now counts))) ⌝ }
 {
     let search = search::witness_search::init(labels, heap, fresh, start, avoid);
-    ask_all(arcs, weights, nodes, labels, heap, search, limit, targets, sums, answers, counts);
+    ask_all(
+        arcs,
+        weights,
+        nodes,
+        labels,
+        heap,
+        search,
+        limit,
+        targets,
+        sums,
+        answers,
+        counts,
+    );
 }
 
 // The links' graph in the slices, and labels that no search has touched yet.
@@ -151,15 +207,21 @@ fn begin(
     labels: &mut [u64],
     heap: usize,
 ) -> Begun
-    ensures {
-        λ r. ⌜ (r .ok ≡ true → Ground n (now (arcs .exit)) (now (weights .exit)) (now (nodes .exit)) (now (labels .exit)) heap (r .search .base)) ⌝
-    }
+    ensures { λ r. ⌜ (r .ok ≡ true → Ground n (now (arcs .exit)) (now (weights .exit)) (now (nodes .exit)) (now (labels .exit)) heap (r .search .base)) ⌝ }
 {
     let pool = tails.len();
     if !links_fit(n, tails, heads, link_weights) {
         return refused();
     }
-    if !lent_fits(n, pool, arcs.len(), weights.len(), nodes.len(), labels.len(), heap) {
+    if !lent_fits(
+        n,
+        pool,
+        arcs.len(),
+        weights.len(),
+        nodes.len(),
+        labels.len(),
+        heap,
+    ) {
         return refused();
     }
     let added = graph::preparation_graph::from_input_graph(
@@ -206,10 +268,254 @@ pub extern "C" fn witness_searches(
     if !asks_fit(n, targets, sums, answers.len(), counts.len()) {
         return false;
     }
-    let begun = begin(n, tails, heads, link_weights, arcs, weights, nodes, labels, heap.len());
+    let begun = begin(
+        n,
+        tails,
+        heads,
+        link_weights,
+        arcs,
+        weights,
+        nodes,
+        labels,
+        heap.len(),
+    );
     if !begun.ok {
         return false;
     }
-    ask_from(arcs, weights, nodes, labels, heap, begun.search, start, avoid, limit, targets, sums, answers, counts);
+    ask_from(
+        arcs,
+        weights,
+        nodes,
+        labels,
+        heap,
+        begun.search,
+        start,
+        avoid,
+        limit,
+        targets,
+        sums,
+        answers,
+        counts,
+    );
     true
+}
+
+// What a run over pairs keeps: the search, and a sum over its answers and counts.
+struct Run {
+    search: WitnessSearch,
+    total: u64,
+}
+
+fn count_in(total: u64, weight: u64, settled: u64) -> u64 {
+    std::num::wrapping_add_u64(total, std::num::wrapping_add_u64(weight, settled))
+}
+
+// One pair: nothing is asked where both ends are the same, or where the sum is too heavy.
+fn ask_pair(
+    arcs: &[u32],
+    weights: &[u64],
+    nodes: &[u32],
+    labels: &mut [u64],
+    heap: &mut [u64],
+    run: Run,
+    tail: u32,
+    head: u32,
+    sum: u64,
+    limit: u32,
+) -> Run
+    requires { ⌜ ((w : World) × Going w (lent (now arcs) (now weights) (now nodes) (now labels) (now heap)) (run .search) × (head < w .n)) ⌝ }
+    ensures { λ r. ⌜ ((w : World) → Going w (lent (now (arcs .entry)) (now (weights .entry)) (now (nodes .entry)) (now (labels .entry)) (now (heap .entry))) (run .search) → head < w .n →
+        Went w (lent (now (arcs .entry)) (now (weights .entry)) (now (nodes .entry)) (now (labels .exit)) (now (heap .exit))) (run .search) (r .search)) ⌝ }
+{
+    if head == tail {
+        return run;
+    }
+    if MAX_WEIGHT < sum {
+        return run;
+    }
+    let asked = run.search;
+    let found = search::witness_search::find_max_weight(
+        arcs,
+        weights,
+        nodes,
+        labels,
+        heap,
+        asked,
+        head,
+        sum,
+        limit,
+    );
+    let search = found.search;
+    let total = count_in(run.total, found.weight, search.settled);
+    Run { search, total }
+}
+
+// The pairs of one in-arc, from `tail` and of weight `weight`, with each out-arc of the avoided node.
+fn out_arcs(
+    arcs: &[u32],
+    weights: &[u64],
+    nodes: &[u32],
+    labels: &mut [u64],
+    heap: &mut [u64],
+    run: Run,
+    v: u32,
+    tail: u32,
+    weight: u64,
+    limit: u32,
+) -> Run
+    requires { ⌜ ((w : World) × Going w (lent (now arcs) (now weights) (now nodes) (now labels) (now heap)) (run .search) × (v < w .n) × (weight ≤ maxWeight)) ⌝ }
+    ensures { λ r. ⌜ ((w : World) → Going w (lent (now (arcs .entry)) (now (weights .entry)) (now (nodes .entry)) (now (labels .entry)) (now (heap .entry))) (run .search) → v < w .n →
+        Went w (lent (now (arcs .entry)) (now (weights .entry)) (now (nodes .entry)) (now (labels .exit)) (now (heap .exit))) (run .search) (r .search)) ⌝ }
+{
+    let mut run = run;
+    let mut place = nodes[4 * v as usize];
+    while place != INVALID {
+        let i = place as usize;
+        place = arcs[6 * i + 3];
+        run = ask_pair(
+            arcs,
+            weights,
+            nodes,
+            labels,
+            heap,
+            run,
+            tail,
+            arcs[6 * i + 1],
+            weight + weights[i],
+            limit,
+        );
+    }
+    run
+}
+
+// One in-arc, with a search of its own.
+fn from_tail(
+    arcs: &[u32],
+    weights: &[u64],
+    nodes: &[u32],
+    labels: &mut [u64],
+    heap: &mut [u64],
+    run: Run,
+    v: u32,
+    tail: u32,
+    weight: u64,
+    limit: u32,
+) -> Run
+    requires { ⌜ ((w : World) × Resting w (now arcs) (now weights) (now nodes) (now labels) (length (now heap)) (run .search .base) × (v < w .n) × (tail < w .n) × (weight ≤ maxWeight)) ⌝ }
+    ensures { λ r. ⌜ ((w : World) → Resting w (now (arcs .entry)) (now (weights .entry)) (now (nodes .entry)) (now (labels .entry)) (length (now (heap .entry))) (run .search .base) → v < w .n → tail < w .n →
+        Stamped (w .n) (now (labels .exit)) (r .search .base)) ⌝ }
+{
+    let rested = run.search;
+    if BASE_MAX <= rested.base {
+        return run;
+    }
+    let search = search::witness_search::init(labels, heap, rested, tail, v);
+    out_arcs(
+        arcs,
+        weights,
+        nodes,
+        labels,
+        heap,
+        Run {
+            search,
+            total: run.total,
+        },
+        v,
+        tail,
+        weight,
+        limit,
+    )
+}
+
+// Each in-arc of v.
+fn in_arcs(
+    arcs: &[u32],
+    weights: &[u64],
+    nodes: &[u32],
+    labels: &mut [u64],
+    heap: &mut [u64],
+    run: Run,
+    v: u32,
+    limit: u32,
+) -> Run
+    requires { ⌜ ((w : World) × Resting w (now arcs) (now weights) (now nodes) (now labels) (length (now heap)) (run .search .base) × (v < w .n)) ⌝ }
+    ensures { λ r. ⌜ ((w : World) → Resting w (now (arcs .entry)) (now (weights .entry)) (now (nodes .entry)) (now (labels .entry)) (length (now (heap .entry))) (run .search .base) → v < w .n →
+        Stamped (w .n) (now (labels .exit)) (r .search .base)) ⌝ }
+{
+    let mut run = run;
+    let mut place = nodes[4 * v as usize + 2];
+    while place != INVALID {
+        let i = place as usize;
+        place = arcs[6 * i + 4];
+        run = from_tail(
+            arcs,
+            weights,
+            nodes,
+            labels,
+            heap,
+            run,
+            v,
+            arcs[6 * i],
+            weights[i],
+            limit,
+        );
+    }
+    run
+}
+
+fn all_nodes(
+    arcs: &[u32],
+    weights: &[u64],
+    nodes: &[u32],
+    labels: &mut [u64],
+    heap: &mut [u64],
+    n: usize,
+    search: WitnessSearch,
+    limit: u32,
+) -> u64
+    requires { ⌜ ((w : World) × (w .n ≡ n) × (n ≤ 1048576) × Resting w (now arcs) (now weights) (now nodes) (now labels) (length (now heap)) (search .base)) ⌝ }
+{
+    let mut run = Run { search, total: 0 };
+    let mut v = 0;
+    while v < n {
+        run = in_arcs(arcs, weights, nodes, labels, heap, run, v as u32, limit);
+        v += 1;
+    }
+    run.total
+}
+
+// The searches that contracting each node of the links would ask for, were nothing added: the sum of their answers and counts,
+// modulo 2^64; 0 where something handed in does not fit.
+#[no_mangle]
+pub extern "C" fn all_pairs(
+    n: usize,
+    tails: &[u32],
+    heads: &[u32],
+    link_weights: &[u32],
+    limit: u32,
+    arcs: &mut [u32],
+    weights: &mut [u64],
+    nodes: &mut [u32],
+    labels: &mut [u64],
+    heap: &mut [u64],
+) -> u64 {
+    if 1048576 < n {
+        return 0;
+    }
+    let begun = begin(
+        n,
+        tails,
+        heads,
+        link_weights,
+        arcs,
+        weights,
+        nodes,
+        labels,
+        heap.len(),
+    );
+    if !begun.ok {
+        return 0;
+    }
+    let fresh = begun.search;
+    all_nodes(arcs, weights, nodes, labels, heap, n, fresh, limit)
 }

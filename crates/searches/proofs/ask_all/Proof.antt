@@ -18,7 +18,7 @@ Inv-loop arcs weights nodes labels₀ heap₀ limit targets sums answers₀ coun
     (k ≤ length targets) × (length labels ≡ length labels₀) × (length heap ≡ length heap₀) × (length answers ≡ length answers₀) ×
     (length counts ≡ length counts₀) ×
     ((w : World) × (s : Search) × Ready w (lent arcs weights nodes labels heap) (search .base) (search .len) (search .settled) s ×
-      Askable (w .n) targets sums (length answers₀) (length counts₀))
+    Askable (w .n) targets sums (length answers₀) (length counts₀))
 
 abbrev μ-loop : tie.MeasureT-loop
 μ-loop arcs weights nodes labels₀ heap₀ limit targets sums answers₀ counts₀ search₀ k₀ labels heap answers counts search k = length targets - k
@@ -42,14 +42,15 @@ find-max-weight-requires : tie.Need-find-max-weight-requires Inv-loop μ-loop
 find-max-weight-requires c κs =
     let loop = c .before .before .before .before .before .loop in
     let below = c .before .before .before .before .loop-test .taken in
-    let here = loop .inv .5 in
-    ( here .0,
+    let here = loop .inv .5 in (
+      here .0,
       here .1,
       record {
         ready = here .2;
         inside = here .3 .inside (loop .k) below;
-        small = here .3 .small (loop .k) below
-      } )
+        small = here .3 .small (loop .k) below;
+      },
+    )
 
 mul-answers : tie.Need-mul-answers Inv-loop μ-loop
 mul-answers c = omega (arith, c .before .before .before .before .before .before .before .before .before .loop-test .taken, c .before .before .before .before .before .before .before .before .before .before .before .before .before .before .before .before .before .before .before .before)
@@ -70,24 +71,25 @@ loop-less : tie.Need-loop-less Inv-loop μ-loop
 loop-less c = search needs
 
 loop-again : tie.Need-loop-again Inv-loop μ-loop
-loop-again c = 
+loop-again c =
     let loop = c .before .before .before .before .before .before .before .before .before .before .before .loop in
     let below = c .before .before .before .before .before .before .before .before .before .before .loop-test .taken in
     let here = loop .inv .5 in
     let answered =
-      c .before .before .before .before .before .find-max-weight .ensures (here .0) (here .1)
-        (record {
-          ready = here .2;
-          inside = here .3 .inside (loop .k) below;
-          small = here .3 .small (loop .k) below
-        })
-    in
-    ( omega (arith, below),
+    c .before .before .before .before .before .find-max-weight .ensures (here .0) (here .1)
+    (record {
+      ready = here .2;
+      inside = here .3 .inside (loop .k) below;
+      small = here .3 .small (loop .k) below;
+    })
+    in (
+      omega (arith, below),
       search needs,
       search needs,
       search needs,
       search needs,
-      (here .0, _, answered .ready, here .3) )
+      (here .0, _, answered .ready, here .3),
+    )
 
 same-length : tie.Need-same-length Inv-loop μ-loop
 same-length c = search needs

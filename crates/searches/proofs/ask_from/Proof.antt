@@ -1,13 +1,8 @@
 -- The ground is what a search starts on, and the start is what its targets are asked of.
-use mathlib.Core.Path.{_≡_, refl, sym, _∙_}
 use native.Mathlib.Omega.{arith}
 use borrow.Author.Needs.{needs}
-use Prim.Native.Nat.{ℕ, _<_}
-use mathlib.Core.List.{List}
-use lib.ListN.{length}
-use Rattle.searches.specs.Fits.{Ground}
-use Rattle.search.specs.Promises.{Starting}
 use Rattle.search.proofs.Laws.{started-ready}
+use Rattle.searches.proofs.Rounds.{ready-to-start}
 use Rattle.searches.proofs.ask_from.Statement.{statement}
 use Rattle.searches.proofs.ask_from.Tie as tie
 use Rattle.searches.proofs.ask_from.Reads as reads
@@ -15,28 +10,19 @@ use Rattle.searches.proofs.ask_from.Lts as lts
 use Rattle.search.proofs.witness_search.init.Reads as init-reads
 use Rattle.searches.proofs.ask_all.Reads as ask-all-reads
 
-starting : {n base start : ℕ} {arcs weights nodes labels heap : List ℕ} (g : Ground n arcs weights nodes labels (length heap) base) → start < n →
-    Starting labels heap base start (g .world .n)
-starting g inside =
-    record {
-      stamped = rw (g .nodes-are) (g .stamped);
-      inside = rw (g .nodes-are) inside;
-      heap-room = omega (arith, g .heap-room);
-      fits = omega (arith, g .low)
-    }
-
 init-requires : tie.Need-init-requires
-init-requires c κs = (c .before .before .before .before .before .before .before .before .before .before .before .pre .1 .world .n, starting (c .before .before .before .before .before .before .before .before .before .before .before .pre .1) (c .before .before .before .before .before .before .before .before .before .before .before .pre .2))
+init-requires c κs = (c .before .before .before .before .before .before .before .before .before .before .before .pre .1 .world .n, ready-to-start (c .before .before .before .before .before .before .before .before .before .before .before .pre .1) (c .before .before .before .before .before .before .before .before .before .before .before .pre .2))
 
 ask-all-requires : tie.Need-ask-all-requires
 ask-all-requires c κs =
     let ground = c .before .before .before .before .before .before .before .before .before .before .before .before .before .before .before .before .before .before .before .before .pre .1 in
     let init = c .before .before .before .before .before .before .before .before .init in
-    let started = init .ensures (ground .world .n) (starting ground (c .before .before .before .before .before .before .before .before .before .before .before .before .before .before .before .before .before .before .before .before .pre .2)) in
-    ( ground .world,
+    let started = init .ensures (ground .world .n) (ready-to-start ground (c .before .before .before .before .before .before .before .before .before .before .before .before .before .before .before .before .before .before .before .before .pre .2)) in (
+      ground .world,
       _,
       started-ready (init .result) started (ground .standing) (omega (arith, ground .heap-room, c .before .before .before .before .before .heap .given)),
-      rw (ground .nodes-are) (c .before .before .before .before .before .before .before .before .before .before .before .before .before .before .before .before .before .before .before .before .pre .3) )
+      rw (ground .nodes-are) (c .before .before .before .before .before .before .before .before .before .before .before .before .before .before .before .before .before .before .before .before .pre .3),
+    )
 
 same-length : tie.Need-same-length
 same-length c = search needs

@@ -60,25 +60,26 @@ loop-less : tie.Need-loop-less Inv-loop μ-loop
 loop-less c = search needs
 
 loop-again : tie.Need-loop-again Inv-loop μ-loop
-loop-again c = 
-    ( omega (arith, c .before .before .before .before .loop-test .taken),
-      c .before .before .before .before .before .loop .inv .1,
-      c .before .before .before .before .before .loop .inv .2,
-      c .before .before .before .before .before .loop .inv .3,
-      c .before .before .before .before .before .loop .inv .4,
-      below-more _ _ (c .before .before .before .before .before .loop .inv .5) (c .before .before .if4 .left),
-      below-more _ _ (c .before .before .before .before .before .loop .inv .6) (c .if5 .left) )
+loop-again c = (
+  omega (arith, c .before .before .before .before .loop-test .taken),
+  c .before .before .before .before .before .loop .inv .1,
+  c .before .before .before .before .before .loop .inv .2,
+  c .before .before .before .before .before .loop .inv .3,
+  c .before .before .before .before .before .loop .inv .4,
+  below-more _ _ (c .before .before .before .before .before .loop .inv .5) (c .before .before .if4 .left),
+  below-more _ _ (c .before .before .before .before .before .loop .inv .6) (c .if5 .left),
+)
 
 returns-6 : tie.Need-returns-6 Inv-loop μ-loop
-returns-6 c = 
+returns-6 c =
     λ _.
-      record {
-        even = c .before .loop .inv .2;
-        answers-room = c .before .loop .inv .3;
-        counts-room = c .before .loop .inv .4;
-        inside = λ k h. c .before .loop .inv .5 k (omega (arith, c .before .loop .inv .1, c .loop-test .left));
-        small = λ k h. c .before .loop .inv .6 k (omega (arith, c .before .loop .inv .1, c .loop-test .left))
-      }
+    record {
+      even = c .before .loop .inv .2;
+      answers-room = c .before .loop .inv .3;
+      counts-room = c .before .loop .inv .4;
+      inside = λ k h. c .before .loop .inv .5 k (omega (arith, c .before .loop .inv .1, c .loop-test .left));
+      small = λ k h. c .before .loop .inv .6 k (omega (arith, c .before .loop .inv .1, c .loop-test .left));
+    }
 
 pub asks-fit-spec : {M : Type 1} → statement M
 asks-fit-spec =

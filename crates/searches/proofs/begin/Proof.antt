@@ -38,14 +38,15 @@ cast-from-input-graph c = omega (arith, (c .before .before .before .before .lent
 
 from-input-graph-requires : tie.Need-from-input-graph-requires
 from-input-graph-requires c κs =
-    let enough = c .before .before .before .before .lent-fits .ensures (not-false _ (c .before .before .before .if2 .left)) in
-    ( record {
+    let enough = c .before .before .before .before .lent-fits .ensures (not-false _ (c .before .before .before .if2 .left)) in (
+      record {
         numbered = omega (arith, enough .few-places);
         arcs-room = enough .arcs-room;
         weights-room = enough .weights-room;
-        nodes-room = enough .nodes-room
+        nodes-room = enough .nodes-room;
       },
-      c .before .before .before .before .before .before .links-fit .ensures (not-false _ (c .before .before .before .before .before .if1 .left)) )
+      c .before .before .before .before .before .before .links-fit .ensures (not-false _ (c .before .before .before .before .before .if1 .left)),
+    )
 
 enum-told : tie.Need-enum-told
 enum-told c = search needs
@@ -84,22 +85,22 @@ same-length-7 : tie.Need-same-length-7
 same-length-7 c = search needs
 
 returns-4 : tie.Need-returns-4
-returns-4 c = 
+returns-4 c =
     λ e.
-      let enough = c .before .before .before .before .before .before .before .before .before .before .before .before .before .before .before .before .before .lent-fits .ensures (not-false _ (c .before .before .before .before .before .before .before .before .before .before .before .before .before .before .before .before .if2 .left)) in
-      let told = c .before .before .before .before .enum-told .given in
-      record {
-        world = record { n = c .before .before .before .before .before .before .before .before .before .before .before .before .before .before .before .before .before .before .before .before .before .before .before .before .before .before .before .args .n; pool = _; state = told .0 .0; graph = _ };
-        nodes-are = refl;
-        standing =
+    let enough = c .before .before .before .before .before .before .before .before .before .before .before .before .before .before .before .before .before .lent-fits .ensures (not-false _ (c .before .before .before .before .before .before .before .before .before .before .before .before .before .before .before .before .if2 .left)) in
+    let told = c .before .before .before .before .enum-told .given in
+    record {
+      world = record { n = c .before .before .before .before .before .before .before .before .before .before .before .before .before .before .before .before .before .before .before .before .before .before .before .before .before .before .before .args .n; pool = _; state = told .0 .0; graph = _ };
+      nodes-are = refl;
+      standing =
           record {
             stands = c .before .before .before .before .before .before .before .before .before .before .before .before .from-input-graph .ensures .came (told .0 .0) (told .1);
-            light = light _ _ _ (λ k. c .before .before .before .before .before .before .before .before .before .before .before .before .before .before .before .before .before .before .before .before .before .before .before .before .shared-slice-known3 .given k .fits)
+            light = light _ _ _ (λ k. c .before .before .before .before .before .before .before .before .before .before .before .before .before .before .before .before .before .before .before .before .before .before .before .before .shared-slice-known3 .given k .fits);
           };
-        stamped = rw (c .before .before .new .ensures .0) (c .before .before .new .ensures .1);
-        low = omega (arith, c .before .before .new .ensures .0);
-        heap-room = enough .heap-room
-      }
+      stamped = rw (c .before .before .new .ensures .0) (c .before .before .new .ensures .1);
+      low = omega (arith, c .before .before .new .ensures .0);
+      heap-room = enough .heap-room;
+    }
 
 pub begin-spec : {M : Type 1} → statement M
 begin-spec =

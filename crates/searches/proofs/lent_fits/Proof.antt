@@ -45,17 +45,17 @@ mul-result : tie.Need-mul-result
 mul-result c = search needs
 
 returns-7 : tie.Need-returns-7
-returns-7 c = 
+returns-7 c =
     λ e.
-      record {
-        few-nodes = c .before .before .before .before .before .if1 .left;
-        few-places = c .before .before .before .before .if2 .left;
-        arcs-room = c .before .before .before .if3 .left;
-        weights-room = c .before .before .if4 .left;
-        nodes-room = c .before .if5 .left;
-        labels-room = c .if6 .left;
-        heap-room = leb-true _ _ e
-      }
+    record {
+      few-nodes = c .before .before .before .before .before .if1 .left;
+      few-places = c .before .before .before .before .if2 .left;
+      arcs-room = c .before .before .before .if3 .left;
+      weights-room = c .before .before .if4 .left;
+      nodes-room = c .before .if5 .left;
+      labels-room = c .if6 .left;
+      heap-room = leb-true _ _ e;
+    }
 
 pub lent-fits-spec : {M : Type 1} → statement M
 lent-fits-spec =

@@ -59,22 +59,23 @@ loop-less : tie.Need-loop-less Inv-loop μ-loop
 loop-less c = search needs
 
 loop-again : tie.Need-loop-again Inv-loop μ-loop
-loop-again c = 
-    ( omega (arith, c .before .before .before .before .loop-test .taken),
-      c .before .before .before .before .before .loop .inv .1,
-      c .before .before .before .before .before .loop .inv .2,
-      c .before .before .before .before .before .loop .inv .3,
-      below-more _ _ (c .before .before .before .before .before .loop .inv .4) (c .before .before .if3 .left),
-      below-more _ _ (c .before .before .before .before .before .loop .inv .5) (c .if4 .left) )
+loop-again c = (
+  omega (arith, c .before .before .before .before .loop-test .taken),
+  c .before .before .before .before .before .loop .inv .1,
+  c .before .before .before .before .before .loop .inv .2,
+  c .before .before .before .before .before .loop .inv .3,
+  below-more _ _ (c .before .before .before .before .before .loop .inv .4) (c .before .before .if3 .left),
+  below-more _ _ (c .before .before .before .before .before .loop .inv .5) (c .if4 .left),
+)
 
 returns-5 : tie.Need-returns-5 Inv-loop μ-loop
-returns-5 c = 
+returns-5 c =
     λ _.
-      record {
-        even = record { heads = c .before .loop .inv .2; weights = c .before .loop .inv .3 };
-        tails = λ k h. c .before .loop .inv .4 k (omega (arith, c .before .loop .inv .1, c .loop-test .left));
-        heads = λ k h. c .before .loop .inv .5 k (omega (arith, c .before .loop .inv .1, c .loop-test .left))
-      }
+    record {
+      even = record { heads = c .before .loop .inv .2; weights = c .before .loop .inv .3 };
+      tails = λ k h. c .before .loop .inv .4 k (omega (arith, c .before .loop .inv .1, c .loop-test .left));
+      heads = λ k h. c .before .loop .inv .5 k (omega (arith, c .before .loop .inv .1, c .loop-test .left));
+    }
 
 pub links-fit-spec : {M : Type 1} → statement M
 links-fit-spec =

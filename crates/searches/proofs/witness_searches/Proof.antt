@@ -37,11 +37,12 @@ returns-3 : tie.Need-returns-3
 returns-3 c = search needs
 
 ask-from-requires : tie.Need-ask-from-requires
-ask-from-requires c κs =
-    ( _,
-      c .before .before .before .before .before .before .before .before .before .before .before .before .before .before .before .before .before .begin .ensures (not-false _ (c .before .before .before .before .before .before .before .if3 .left)),
-      c .before .before .before .before .before .before .before .before .before .before .before .before .before .before .before .before .before .before .before .before .before .before .before .before .if1 .left,
-      c .before .before .before .before .before .before .before .before .before .before .before .before .before .before .before .before .before .before .before .before .before .before .before .asks-fit .ensures (not-false _ (c .before .before .before .before .before .before .before .before .before .before .before .before .before .before .before .before .before .before .before .before .before .before .if2 .left)) )
+ask-from-requires c κs = (
+  _,
+  c .before .before .before .before .before .before .before .before .before .before .before .before .before .before .before .before .before .begin .ensures (not-false _ (c .before .before .before .before .before .before .before .if3 .left)),
+  c .before .before .before .before .before .before .before .before .before .before .before .before .before .before .before .before .before .before .before .before .before .before .before .before .if1 .left,
+  c .before .before .before .before .before .before .before .before .before .before .before .before .before .before .before .before .before .before .before .before .before .before .before .asks-fit .ensures (not-false _ (c .before .before .before .before .before .before .before .before .before .before .before .before .before .before .before .before .before .before .before .before .before .before .if2 .left)),
+)
 
 same-length-5 : tie.Need-same-length-5
 same-length-5 c = search needs

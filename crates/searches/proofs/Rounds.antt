@@ -1,0 +1,110 @@
+-- A walk along a node's list, for its ends and weights, and a run that goes on.
+use mathlib.Core.Path.{_≡_, refl, sym, _∙_, ap}
+use mathlib.Core.List.{List, [], _∷_, map, List·Memᴰ·head, List·Memᴰ·tail}
+use Prim.Native.Nat.{ℕ, _+_, _*_, _≤_, _<_}
+use native.Mathlib.Nat.{add-zero}
+use native.Mathlib.Omega.{arith}
+use lib.ListN.{length, getD}
+use Rattle.rules.specs.Numbers.{invalid, maxWeight}
+use Rattle.rules.specs.Lists.{In, keep}
+use Rattle.rules.proofs.Members.{in-keep, map-in}
+use Rattle.graph.specs.Memory.{memory, at, first, arc-at, ends-at}
+use Rattle.graph.specs.Walks.{column, Walk, steps}
+use Rattle.graph.proofs.Reading.{walk-on, walk-room, walk-nearer, own-walk}
+use Rattle.graph.proofs.Places.{place-below}
+use Rattle.rules.specs.Search.{init}
+use Rattle.search.specs.declared.witness_search.WitnessSearch.{WitnessSearch}
+use Rattle.search.specs.Labels.{Stamped}
+use Rattle.search.specs.Searching.{World, Standing, lent}
+use Rattle.search.specs.Promises.{Starting, Started}
+use Rattle.search.proofs.Laws.{started-ready}
+use Rattle.searches.specs.Fits.{Ground}
+use Rattle.searches.specs.Rounds.{Going, Resting}
+
+-- a place that can be read
+pub record Fit (n : ℕ) (arcs weights : List ℕ) (i : ℕ) : Type 0 where
+  pub weighed : i < length weights
+  pub tail : getD arcs (6 * i) 0 < n
+  pub head : getD arcs (6 * i + 1) 0 < n
+  pub light : getD weights i 0 ≤ maxWeight
+
+-- what is left of a list
+pub record Left (n : ℕ) (arcs weights : List ℕ) (k place : ℕ) : Type 0 where
+  pub places : List ℕ
+  pub walk : Walk arcs k place places
+  pub each : (i : ℕ) → In i places → Fit n arcs weights i
+
+pub left-all : {w : World} {arcs weights nodes : List ℕ} → Standing w arcs weights nodes → (s v : ℕ) → s < 2 → v < w .n →
+    Left (w .n) arcs weights (3 + s) (first (memory arcs nodes) s v)
+left-all {w} {arcs} {weights} {nodes} x s v two inside =
+    let here = x .stands in
+    let m = memory arcs nodes in
+    record {
+      places = keep (ends-at m s v) (here .ids);
+      walk = own-walk here s v two inside;
+      each =
+          λ i k.
+          let j = in-keep (ends-at m s v) i (here .ids) k .0 in
+          record {
+            weighed = omega (arith, place-below (here .placed) i j, here .weights-room);
+            tail = rw (add-zero (6 * i)) at (here .placed .ends 0 i (omega arith) j);
+            head = here .placed .ends 1 i (omega arith) j;
+            light = x .light (arc-at m weights i) (rw (here .arcs) (map-in (arc-at m weights) i (here .ids) j));
+          };
+    }
+
+-- from where the code reads the first place
+pub left-outs : {w : World} {arcs weights nodes : List ℕ} → Standing w arcs weights nodes → (v : ℕ) → v < w .n →
+    Left (w .n) arcs weights 3 (getD nodes (4 * v) 0)
+left-outs x v inside = rw (add-zero (4 * v)) at (left-all x 0 v (omega arith) inside)
+
+pub left-ins : {w : World} {arcs weights nodes : List ℕ} → Standing w arcs weights nodes → (v : ℕ) → v < w .n →
+    Left (w .n) arcs weights 4 (getD nodes (4 * v + 2) 0)
+left-ins x v inside = left-all x 1 v (omega arith) inside
+
+module _ {n : ℕ} {arcs weights : List ℕ} {k place : ℕ} (x : Left n arcs weights k place) (on : place ≡ invalid → ⊥) where
+  pub left-fit : Fit n arcs weights place
+  left-fit = let r = walk-on (x .walk) on in x .each place (rw (r .1) (List·Memᴰ·head refl))
+
+  pub left-room : 6 * place + 6 ≤ length arcs
+  left-room = walk-room (x .walk) on
+
+  pub left-on : Left n arcs weights k (column arcs k place)
+  left-on =
+      let r = walk-on (x .walk) on in
+      record { places = r .0; walk = r .2; each = λ i m. x .each i (rw (r .1) (List·Memᴰ·tail m)) }
+
+  pub left-nearer : steps (column arcs k) (length arcs) (column arcs k place) < steps (column arcs k) (length arcs) place
+  left-nearer = walk-nearer (x .walk) on
+
+-- the next search may begin, and then it goes
+module _ {w : World} {arcs weights nodes labels : List ℕ} {base : ℕ} where
+  pub still : {heap heap′ base′ : ℕ} {labels′ : List ℕ} → Resting w arcs weights nodes labels heap base → heap′ ≡ heap → Stamped (w .n) labels′ base′ →
+      Resting w arcs weights nodes labels′ heap′ base′
+  still x e s = record { standing = x .standing; stamped = s; heap-room = omega (arith, e, x .heap-room) }
+
+  pub starting : {heap : List ℕ} {start : ℕ} → Resting w arcs weights nodes labels (length heap) base → start < w .n → base < 1000000000000000000 →
+      Starting labels heap base start (w .n)
+  starting x inside low =
+      record { stamped = x .stamped; inside = inside; heap-room = omega (arith, x .heap-room); fits = omega (arith, low) }
+
+  pub begun : {labels′ heap′ : List ℕ} {heap start avoid : ℕ} (r : WitnessSearch) → Resting w arcs weights nodes labels heap base →
+      Started labels′ heap′ base start avoid r (w .n) → length heap′ ≡ heap → Going w (lent arcs weights nodes labels′ heap′) r
+  begun {labels′} {heap′} {heap} {start} r x s e =
+      record {
+        search = init start;
+        ready = started-ready {w = w} {m = lent arcs weights nodes labels′ heap′} r s (x .standing) (omega (arith, x .heap-room, e));
+      }
+
+-- the ground that `begin` lays is one to rest on
+pub rest-on : {n heap base : ℕ} {arcs weights nodes labels : List ℕ} (g : Ground n arcs weights nodes labels heap base) →
+    Resting (g .world) arcs weights nodes labels heap base
+rest-on g = record { standing = g .standing; stamped = rw (g .nodes-are) (g .stamped); heap-room = g .heap-room }
+
+pub ready-to-start : {n base start : ℕ} {arcs weights nodes labels heap : List ℕ} (g : Ground n arcs weights nodes labels (length heap) base) → start < n →
+    Starting labels heap base start (g .world .n)
+ready-to-start g inside = starting (rest-on g) (rw (g .nodes-are) inside) (g .low)
+
+pub grounded : {n heap base : ℕ} {arcs weights nodes labels : List ℕ} → Ground n arcs weights nodes labels heap base → n ≤ 1048576 →
+    (w : World) × (w .n ≡ n) × (n ≤ 1048576) × Resting w arcs weights nodes labels heap base
+grounded g few = (g .world, g .nodes-are, few, rest-on g)
