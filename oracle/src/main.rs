@@ -62,6 +62,8 @@ mod shortest_path;
 mod valid_flags;
 
 mod answer;
+#[cfg(beside)]
+mod beside;
 mod json;
 mod meshes;
 mod room;
@@ -82,6 +84,13 @@ fn main() {
     match args.iter().map(String::as_str).collect::<Vec<_>>()[..] {
         ["answer"] => answer_all(false),
         ["answer", "--peak"] => answer_all(true),
+        #[cfg(beside)]
+        ["beside", count, seed] => match (count.parse(), seed.parse()) {
+            (Ok(count), Ok(seed)) => beside::compare(count, seed),
+            _ => fail("usage: oracle beside COUNT SEED"),
+        },
+        #[cfg(beside)]
+        ["race"] => beside::race(),
         ["time", "--write", folder, ref names @ ..] => timing::time(names, Some(Path::new(folder))),
         ["time", ref names @ ..] => timing::time(names, None),
         _ => fail("usage: oracle answer [--peak] | oracle time [--write FOLDER] [GRAPH ...]"),

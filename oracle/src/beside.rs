@@ -1,0 +1,251 @@
+//! Runs the proved witness search beside the crate's, on random small graphs and on the meshes that are timed.
+
+use crate::constants::{NodeId, MAX_SUM};
+use crate::input_graph::{Edge, InputGraph};
+use crate::meshes::{mesh, Rng, NAMES};
+use crate::preparation_graph::PreparationGraph;
+use crate::witness_search::WitnessSearch;
+use crate::fail;
+use crate::timing::timed;
+
+#[link(name = "searches", kind = "static")]
+extern "C" {
+    #[rustfmt::skip]
+    fn witness_searches(
+        n: usize,
+        tails: *const u32, tails_len: usize,
+        heads: *const u32, heads_len: usize,
+        link_weights: *const u32, link_weights_len: usize,
+        start: u32, avoid: u32, limit: u32,
+        targets: *const u32, targets_len: usize,
+        sums: *const u64, sums_len: usize,
+        answers: *mut u64, answers_len: usize,
+        counts: *mut u64, counts_len: usize,
+        arcs: *mut u32, arcs_len: usize,
+        weights: *mut u64, weights_len: usize,
+        nodes: *mut u32, nodes_len: usize,
+        labels: *mut u64, labels_len: usize,
+        heap: *mut u64, heap_len: usize,
+    ) -> bool;
+
+    #[rustfmt::skip]
+    fn all_pairs(
+        n: usize,
+        tails: *const u32, tails_len: usize,
+        heads: *const u32, heads_len: usize,
+        link_weights: *const u32, link_weights_len: usize,
+        limit: u32,
+        arcs: *mut u32, arcs_len: usize,
+        weights: *mut u64, weights_len: usize,
+        nodes: *mut u32, nodes_len: usize,
+        labels: *mut u64, labels_len: usize,
+        heap: *mut u64, heap_len: usize,
+    ) -> u64;
+}
+
+/// Links in columns, and the slices that a search over them borrows.
+struct Ours {
+    n: usize,
+    tails: Vec<u32>,
+    heads: Vec<u32>,
+    link_weights: Vec<u32>,
+    arcs: Vec<u32>,
+    weights: Vec<u64>,
+    nodes: Vec<u32>,
+    labels: Vec<u64>,
+    heap: Vec<u64>,
+}
+
+impl Ours {
+    fn new(graph: &InputGraph) -> Ours {
+        let edges = graph.get_edges();
+        let (n, pool) = (graph.get_num_nodes(), edges.len());
+        Ours {
+            n,
+            tails: edges.iter().map(|e| e.from as u32).collect(),
+            heads: edges.iter().map(|e| e.to as u32).collect(),
+            link_weights: edges.iter().map(|e| e.weight as u32).collect(),
+            arcs: vec![0; 6 * pool],
+            weights: vec![0; pool],
+            nodes: vec![0; 4 * n],
+            labels: vec![0; 2 * n],
+            heap: vec![0; 2 * (pool + 1)],
+        }
+    }
+
+    /// Answer and settled count for each target.
+    #[rustfmt::skip]
+    fn ask(&mut self, asked: &Asked) -> Vec<(u64, u64)> {
+        let targets: Vec<u32> = asked.targets.iter().map(|t| t.0 as u32).collect();
+        let sums: Vec<u64> = asked.targets.iter().map(|t| t.1).collect();
+        let (mut answers, mut counts) = (vec![0u64; targets.len()], vec![0u64; targets.len()]);
+        let taken = unsafe {
+            witness_searches(
+                self.n,
+                self.tails.as_ptr(), self.tails.len(),
+                self.heads.as_ptr(), self.heads.len(),
+                self.link_weights.as_ptr(), self.link_weights.len(),
+                asked.start as u32, asked.avoid as u32, asked.limit as u32,
+                targets.as_ptr(), targets.len(),
+                sums.as_ptr(), sums.len(),
+                answers.as_mut_ptr(), answers.len(),
+                counts.as_mut_ptr(), counts.len(),
+                self.arcs.as_mut_ptr(), self.arcs.len(),
+                self.weights.as_mut_ptr(), self.weights.len(),
+                self.nodes.as_mut_ptr(), self.nodes.len(),
+                self.labels.as_mut_ptr(), self.labels.len(),
+                self.heap.as_mut_ptr(), self.heap.len(),
+            )
+        };
+        if !taken {
+            fail("the proved search did not take what it was handed");
+        }
+        answers.into_iter().zip(counts).collect()
+    }
+
+    /// The sum of answers and counts over all pairs of all nodes.
+    #[rustfmt::skip]
+    fn all_pairs(&mut self, limit: usize) -> u64 {
+        unsafe {
+            all_pairs(
+                self.n,
+                self.tails.as_ptr(), self.tails.len(),
+                self.heads.as_ptr(), self.heads.len(),
+                self.link_weights.as_ptr(), self.link_weights.len(),
+                limit as u32,
+                self.arcs.as_mut_ptr(), self.arcs.len(),
+                self.weights.as_mut_ptr(), self.weights.len(),
+                self.nodes.as_mut_ptr(), self.nodes.len(),
+                self.labels.as_mut_ptr(), self.labels.len(),
+                self.heap.as_mut_ptr(), self.heap.len(),
+            )
+        }
+    }
+}
+
+/// The same searches by the crate: for each node, each in-arc and each out-arc, in the crate's order.
+fn crates_pairs(graph: &InputGraph, limit: usize) -> u64 {
+    let graph = PreparationGraph::from_input_graph(graph);
+    let mut search = WitnessSearch::new(graph.get_num_nodes());
+    let mut total = 0u64;
+    for node in 0..graph.get_num_nodes() {
+        for in_arc in &graph.in_edges[node] {
+            search.init(in_arc.adj_node, node);
+            for out_arc in &graph.out_edges[node] {
+                let sum = in_arc.weight + out_arc.weight;
+                if out_arc.adj_node != in_arc.adj_node && sum <= MAX_SUM {
+                    let weight = search.find_max_weight(&graph, out_arc.adj_node, sum, limit);
+                    total = total.wrapping_add(weight).wrapping_add(search.settled() as u64);
+                }
+            }
+        }
+    }
+    total
+}
+
+struct Asked {
+    start: NodeId,
+    avoid: NodeId,
+    limit: usize,
+    targets: Vec<(NodeId, u64)>,
+}
+
+fn crates_own(graph: &InputGraph, asked: &Asked) -> Vec<(u64, u64)> {
+    let graph = PreparationGraph::from_input_graph(graph);
+    let mut search = WitnessSearch::new(graph.get_num_nodes());
+    search.init(asked.start, asked.avoid);
+    let ask = |&(target, sum): &(NodeId, u64)| {
+        let weight = search.find_max_weight(&graph, target, sum, asked.limit);
+        (weight as u64, search.settled() as u64)
+    };
+    asked.targets.iter().map(ask).collect()
+}
+
+fn below(numbers: &mut Rng, bound: usize) -> usize {
+    numbers.below(bound as u64) as usize
+}
+
+/// Links sorted by tail and head, one for a pair, no loops, often of equal weights.
+fn random_graph(numbers: &mut Rng, nodes: usize) -> InputGraph {
+    let (share, heaviest) = (1 + below(numbers, 9), [1, 3, 9, 1000, 4_294_967_295][below(numbers, 5)]);
+    let mut edges = vec![];
+    for from in 0..nodes {
+        for to in 0..nodes {
+            if from != to && below(numbers, 10) < share {
+                edges.push(Edge { from, to, weight: 1 + below(numbers, heaviest) as u64 });
+            }
+        }
+    }
+    InputGraph::new(nodes, edges)
+}
+
+fn random_asked(numbers: &mut Rng, nodes: usize) -> Asked {
+    let avoid = below(numbers, nodes);
+    let mut other = || loop {
+        let node = below(numbers, nodes);
+        if node != avoid {
+            return node;
+        }
+    };
+    let start = other();
+    let ends: Vec<NodeId> = (0..6).map(|_| other()).collect();
+    let limit = [0, 1, 2, 3, 5, 100][below(numbers, 6)];
+    let bound = [2, 5, 30, 3000, 1 << 40][below(numbers, 5)];
+    let targets = ends.into_iter().map(|end| (end, 1 + below(numbers, bound) as u64)).collect();
+    Asked { start, avoid, limit, targets }
+}
+
+/// So many random searches, six targets each; stops at the first that differs.
+pub fn compare(count: usize, seed: u64) {
+    let mut numbers = Rng(seed);
+    let mut asks = 0;
+    for case in 0..count {
+        let nodes = 2 + below(&mut numbers, 9);
+        let graph = random_graph(&mut numbers, nodes);
+        let asked = random_asked(&mut numbers, nodes);
+        let (ours, theirs) = (Ours::new(&graph).ask(&asked), crates_own(&graph, &asked));
+        if ours != theirs {
+            println!("case {case}: from {} avoiding {}, limit {}", asked.start, asked.avoid, asked.limit);
+            for e in graph.get_edges() {
+                println!("  {} -> {}: {}", e.from, e.to, e.weight);
+            }
+            println!("  targets and sums {:?}\n  ours {ours:?}\n  the crate's {theirs:?}", asked.targets);
+            std::process::exit(1)
+        }
+        asks += asked.targets.len();
+    }
+    println!("{count} searches, {asks} answers and counts: all agree");
+}
+
+/// The best of nine runs of each, in turn.
+fn best<T: PartialEq>(mut ours: impl FnMut() -> T, theirs: impl Fn() -> T) -> (f64, f64) {
+    let mut least = (f64::MAX, f64::MAX);
+    for _ in 0..9 {
+        let (ours, seconds) = timed(&mut ours);
+        least.0 = least.0.min(seconds);
+        let (theirs, seconds) = timed(&theirs);
+        least.1 = least.1.min(seconds);
+        if ours != theirs {
+            fail("a mesh was searched otherwise");
+        }
+    }
+    least
+}
+
+/// On each mesh, the links taken in by both: then one search for every node, and the searches that
+/// contracting each node of the links would ask for.
+pub fn race() {
+    const LIMIT: usize = 100;
+    println!("graph     nodes  links   one search: ours ms  crate ms  ratio   all pairs: ours ms  crate ms  ratio");
+    for name in NAMES {
+        let graph = mesh(name);
+        let n = graph.get_num_nodes();
+        let targets = (0..n - 1).map(|node| (node, MAX_SUM)).collect();
+        let asked = Asked { start: 0, avoid: n - 1, limit: n, targets };
+        let mut slices = Ours::new(&graph);
+        let one = best(|| slices.ask(&asked), || crates_own(&graph, &asked));
+        let all = best(|| slices.all_pairs(LIMIT), || crates_pairs(&graph, LIMIT));
+        let show = |(ours, theirs): (f64, f64)| format!("{:>20.3} {:>9.3} {:>6.2}", 1e3 * ours, 1e3 * theirs, ours / theirs);
+        println!("{name:<8} {n:>6} {:>6} {} {}", graph.get_edges().len(), show(one), show(all));
+    }
+}
