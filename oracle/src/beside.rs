@@ -232,20 +232,22 @@ fn best<T: PartialEq>(mut ours: impl FnMut() -> T, theirs: impl Fn() -> T) -> (f
     least
 }
 
-/// On each mesh, the links taken in by both: then one search for every node, and the searches that
-/// contracting each node of the links would ask for.
+/// On each mesh, the links taken in by both: then the searches that contracting each node of the links
+/// would ask for, with both limits.
 pub fn race() {
-    const LIMIT: usize = 100;
-    println!("graph     nodes  links   one search: ours ms  crate ms  ratio   all pairs: ours ms  crate ms  ratio");
+    println!("graph     nodes  links  limit   ours ms  crate ms  ours/crate");
     for name in NAMES {
         let graph = mesh(name);
-        let n = graph.get_num_nodes();
-        let targets = (0..n - 1).map(|node| (node, MAX_SUM)).collect();
-        let asked = Asked { start: 0, avoid: n - 1, limit: n, targets };
+        let (nodes, links) = (graph.get_num_nodes(), graph.get_edges().len());
         let mut slices = Ours::new(&graph);
-        let one = best(|| slices.ask(&asked), || crates_own(&graph, &asked));
-        let all = best(|| slices.all_pairs(LIMIT), || crates_pairs(&graph, LIMIT));
-        let show = |(ours, theirs): (f64, f64)| format!("{:>20.3} {:>9.3} {:>6.2}", 1e3 * ours, 1e3 * theirs, ours / theirs);
-        println!("{name:<8} {n:>6} {:>6} {} {}", graph.get_edges().len(), show(one), show(all));
+        for limit in [100, 500] {
+            let (ours, theirs) = best(|| slices.all_pairs(limit), || crates_pairs(&graph, limit));
+            println!(
+                "{name:<8} {nodes:>6} {links:>6} {limit:>6} {:>9.2} {:>9.2} {:>11.2}",
+                1e3 * ours,
+                1e3 * theirs,
+                ours / theirs
+            );
+        }
     }
 }

@@ -64,6 +64,7 @@ mod valid_flags;
 mod answer;
 #[cfg(beside)]
 mod beside;
+mod drawn;
 mod json;
 mod meshes;
 mod room;
@@ -83,6 +84,7 @@ fn main() {
     let args: Vec<String> = std::env::args().skip(1).collect();
     match args.iter().map(String::as_str).collect::<Vec<_>>()[..] {
         ["answer"] => answer_all(false),
+        ["drawn"] => drawn::lines(),
         ["answer", "--peak"] => answer_all(true),
         #[cfg(beside)]
         ["beside", count, seed] => match (count.parse(), seed.parse()) {
@@ -93,7 +95,7 @@ fn main() {
         ["race"] => beside::race(),
         ["time", "--write", folder, ref names @ ..] => timing::time(names, Some(Path::new(folder))),
         ["time", ref names @ ..] => timing::time(names, None),
-        _ => fail("usage: oracle answer [--peak] | oracle time [--write FOLDER] [GRAPH ...]"),
+        _ => fail("usage: oracle answer [--peak] | oracle drawn | oracle time [--write FOLDER] [GRAPH ...]"),
     }
 }
 
