@@ -1,3 +1,5 @@
 -- Laws that several proofs cite.
-pub mod Light
+pub mod Deciding
+pub mod Links
+pub mod Answers
 pub mod Rounds

@@ -1,4 +1,5 @@
 -- A walk along a node's list, for its ends and weights, and a run that goes on.
+use mathlib.Core.Bool.{false, false≢true}
 use mathlib.Core.Path.{_≡_, refl, sym, _∙_, ap}
 use mathlib.Core.List.{List, [], _∷_, map, List·Memᴰ·head, List·Memᴰ·tail}
 use Prim.Native.Nat.{ℕ, _+_, _*_, _≤_, _<_}
@@ -6,6 +7,7 @@ use native.Mathlib.Nat.{add-zero}
 use native.Mathlib.Omega.{arith}
 use lib.ListN.{length, getD}
 use Rattle.rules.specs.Numbers.{invalid, maxWeight}
+use Rattle.rules.specs.Columns.{Links}
 use Rattle.rules.specs.Lists.{In, keep}
 use Rattle.rules.proofs.Members.{in-keep, map-in}
 use Rattle.graph.specs.Memory.{memory, at, first, arc-at, ends-at}
@@ -15,11 +17,15 @@ use Rattle.graph.proofs.Places.{place-below}
 use Rattle.rules.specs.Search.{init}
 use Rattle.search.specs.declared.witness_search.WitnessSearch.{WitnessSearch}
 use Rattle.search.specs.Labels.{Stamped}
-use Rattle.search.specs.Searching.{World, Standing, lent}
+use Rattle.search.specs.Searching.{World, Standing, lent, Ready}
 use Rattle.search.specs.Promises.{Starting, Started}
 use Rattle.search.proofs.Laws.{started-ready}
-use Rattle.searches.specs.Fits.{Ground}
-use Rattle.searches.specs.Rounds.{Going, Resting}
+use Rattle.searches.specs.declared.Begun.{Begun}
+use Rattle.searches.specs.Asks.{graph-of}
+use Rattle.searches.specs.Fits.{Askable, Fitting}
+use Rattle.searches.specs.Rounds.{Resting, Startable, AskingFrom, world, Ground, Begins, Searchable, Searches}
+use Rattle.searches.proofs.Deciding.{refuses, no}
+use Rattle.searches.proofs.Answers.{none-written}
 
 -- a place that can be read
 pub record Fit (n : ℕ) (arcs weights : List ℕ) (i : ℕ) : Type 0 where
@@ -83,28 +89,33 @@ module _ {w : World} {arcs weights nodes labels : List ℕ} {base : ℕ} where
       Resting w arcs weights nodes labels′ heap′ base′
   still x e s = record { standing = x .standing; stamped = s; heap-room = omega (arith, e, x .heap-room) }
 
-  pub starting : {heap : List ℕ} {start : ℕ} → Resting w arcs weights nodes labels (length heap) base → start < w .n → base < 1000000000000000000 →
-      Starting labels heap base start (w .n)
-  starting x inside low =
-      record { stamped = x .stamped; inside = inside; heap-room = omega (arith, x .heap-room); fits = omega (arith, low) }
+  pub starting : {heap : List ℕ} {start : ℕ} → Startable w arcs weights nodes labels (length heap) base start → Starting labels heap base start (w .n)
+  starting x = record { stamped = x .resting .stamped; inside = x .inside; heap-room = omega (arith, x .resting .heap-room); fits = x .fits }
 
-  pub begun : {labels′ heap′ : List ℕ} {heap start avoid : ℕ} (r : WitnessSearch) → Resting w arcs weights nodes labels heap base →
-      Started labels′ heap′ base start avoid r (w .n) → length heap′ ≡ heap → Going w (lent arcs weights nodes labels′ heap′) r
-  begun {labels′} {heap′} {heap} {start} r x s e =
-      record {
-        search = init start;
-        ready = started-ready {w = w} {m = lent arcs weights nodes labels′ heap′} r s (x .standing) (omega (arith, x .heap-room, e));
-      }
+  pub started : {labels′ heap′ : List ℕ} {heap start avoid : ℕ} (r : WitnessSearch) → Resting w arcs weights nodes labels heap base →
+      Started labels′ heap′ base start avoid r (w .n) → length heap′ ≡ heap →
+      Ready w (lent arcs weights nodes labels′ heap′) (r .base) (r .len) (r .settled) (init start)
+  started {labels′} {heap′} r x s e =
+      started-ready {w = w} {m = lent arcs weights nodes labels′ heap′} r s (x .standing) (omega (arith, x .heap-room, e))
 
--- the ground that `begin` lays is one to rest on
-pub rest-on : {n heap base : ℕ} {arcs weights nodes labels : List ℕ} (g : Ground n arcs weights nodes labels heap base) →
-    Resting (g .world) arcs weights nodes labels heap base
-rest-on g = record { standing = g .standing; stamped = rw (g .nodes-are) (g .stamped); heap-room = g .heap-room }
+-- what `begin` promises where it refuses
+pub not-begun : {n : ℕ} {l : Links} {arcs weights nodes labels arcs′ weights′ nodes′ labels′ : List ℕ} {heap : ℕ} (r : Begun) → r .ok ≡ false →
+    (Fitting n l (length arcs) (length weights) (length nodes) (length labels) heap → ⊥) →
+    Begins n l arcs weights nodes labels arcs′ weights′ nodes′ labels′ heap r
+not-begun r e f = record { decides = refuses e f; ground = λ t. absurd (false≢true (sym e ∙ t)) }
 
-pub ready-to-start : {n base start : ℕ} {arcs weights nodes labels heap : List ℕ} (g : Ground n arcs weights nodes labels (length heap) base) → start < n →
-    Starting labels heap base start (g .world .n)
-ready-to-start g inside = starting (rest-on g) (rw (g .nodes-are) inside) (g .low)
+-- and `witness_searches`
+pub turned-away : {n start avoid limit : ℕ} {l : Links} {targets sums answers counts : List ℕ} {arcs weights nodes labels heap : ℕ} →
+    (Searchable n start l targets sums (length answers) (length counts) arcs weights nodes labels heap → ⊥) →
+    Searches n l start avoid limit targets sums answers counts answers counts arcs weights nodes labels heap false
+turned-away f = record { decides = no f; asked = λ e. absurd (false≢true e); refused = λ _. none-written }
 
-pub grounded : {n heap base : ℕ} {arcs weights nodes labels : List ℕ} → Ground n arcs weights nodes labels heap base → n ≤ 1048576 →
-    (w : World) × (w .n ≡ n) × (n ≤ 1048576) × Resting w arcs weights nodes labels heap base
-grounded g few = (g .world, g .nodes-are, few, rest-on g)
+-- on the ground that `begin` lays a search may start
+module _ {n : ℕ} {l : Links} {arcs weights nodes labels : List ℕ} {heap base : ℕ} (x : Ground n l arcs weights nodes labels heap base) where
+  abbrev pub graph-there : World
+  graph-there = world n (length (l .tails)) (x .state) (graph-of l)
+
+  pub from-ground : {start : ℕ} {targets sums : List ℕ} {answers counts : ℕ} → start < n → Askable n targets sums answers counts →
+      AskingFrom graph-there arcs weights nodes labels heap base start targets sums answers counts
+  from-ground inside asks =
+      record { startable = record { resting = x .resting; inside = inside; fits = omega (arith, x .fresh) }; asks = asks }

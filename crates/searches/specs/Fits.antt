@@ -1,11 +1,11 @@
--- What the tests of what is handed in show.
+-- What the tests of what is handed in decide.
 use mathlib.Core.List.{List}
 use mathlib.Core.Path.{_≡_}
 use Prim.Native.Nat.{ℕ, _+_, _*_, _<_, _≤_}
 use lib.ListN.{length, getD}
 use Rattle.rules.specs.Numbers.{maxWeight}
-use Rattle.search.specs.Labels.{Stamped}
-use Rattle.search.specs.Searching.{World, Standing}
+use Rattle.rules.specs.Columns.{Links}
+use Rattle.graph.specs.Promises.{Between}
 
 -- lengths that are enough for n nodes and a pool
 pub record Enough (n pool arcs weights nodes labels heap : ℕ) : Type 0 where
@@ -25,11 +25,7 @@ pub record Askable (n : ℕ) (targets sums : List ℕ) (answers counts : ℕ) : 
   pub inside : (k : ℕ) → k < length targets → getD targets k 0 < n
   pub small : (k : ℕ) → k < length targets → getD sums k 0 ≤ maxWeight
 
--- the slices hold a graph of n nodes, no label is of a search yet, and a heap of this length is enough
-pub record Ground (n : ℕ) (arcs weights nodes labels : List ℕ) (heap base : ℕ) : Type 0 where
-  pub world : World
-  pub nodes-are : world .n ≡ n
-  pub standing : Standing world arcs weights nodes
-  pub stamped : Stamped n labels base
-  pub low : base < 1000000000000000000
-  pub heap-room : 2 * (world .pool + 1) ≤ heap
+-- links between n nodes, and a place for each in slices of these lengths
+pub record Fitting (n : ℕ) (l : Links) (arcs weights nodes labels heap : ℕ) : Type 0 where
+  pub between : Between n (l .tails) (l .heads) (l .weights)
+  pub enough : Enough n (length (l .tails)) arcs weights nodes labels heap

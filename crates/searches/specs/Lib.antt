@@ -1,4 +1,6 @@
--- What the tests of what is handed in show.
+-- What is asked of a graph, and what comes of it.
+pub mod Asks
+-- What the tests of what is handed in decide.
 pub mod Fits
--- What a run over pairs keeps, search after search.
+-- What the functions ask and promise.
 pub mod Rounds

@@ -1,11 +1,22 @@
--- What a run over pairs keeps, search after search.
-use mathlib.Core.List.{List}
+-- What the functions ask and promise: the graph and the search are no values of the code, as in crates/search.
+use mathlib.Core.Bool.{Bool, true, false}
+use mathlib.Core.List.{List, []}
 use mathlib.Core.Path.{_≡_}
-use Prim.Native.Nat.{ℕ, _+_, _*_, _≤_}
-use Rattle.rules.specs.Search.{Search}
+use Prim.Native.Nat.{ℕ, _+_, _*_, _^_, _<_, _≤_}
+use lib.ListN.{length}
+use Rattle.rules.specs.Lists.{over}
+use Rattle.rules.specs.Columns.{Links}
+use Rattle.rules.specs.Graph.{Arc}
+use Rattle.rules.specs.Search.{Search, Found, init}
+use Rattle.rules.proofs.Decides.{Decides}
+use Rattle.graph.specs.declared.preparation_graph.Pool.{Pool}
 use Rattle.search.specs.declared.witness_search.WitnessSearch.{WitnessSearch}
 use Rattle.search.specs.Labels.{Stamped}
 use Rattle.search.specs.Searching.{World, Standing, Lent, Ready}
+use Rattle.search.specs.Promises.{Each}
+use Rattle.searches.specs.declared.Begun.{Begun}
+use Rattle.searches.specs.Asks.{graph-of, ask-each, weights-of, counts-of}
+use Rattle.searches.specs.Fits.{Askable, Fitting}
 
 -- a search is in the midst of its targets
 pub record Going (w : World) (m : Lent) (x : WitnessSearch) : Type 0 where
@@ -17,8 +28,65 @@ pub record Went (w : World) (m : Lent) (x y : WitnessSearch) : Type 0 where
   pub going : Going w m y
   pub base : y .base ≡ x .base
 
+-- what was found stands at the front of the answers and counts, whose other places are as they were
+pub record Written (answers counts answers′ counts′ : List ℕ) (found : List Found) : Type 0 where
+  pub answers-are : answers′ ≡ over answers (weights-of found)
+  pub counts-are : counts′ ≡ over counts (counts-of found)
+
+-- a search is in the midst of its targets, and these can be asked for
+pub record Asking (m : Lent) (x : WitnessSearch) (targets sums : List ℕ) (answers counts : ℕ) (w : World) (s : Search) : Type 0 where
+  pub ready : Ready w m (x .base) (x .len) (x .settled) s
+  pub asks : Askable (w .n) targets sums answers counts
+
+abbrev pub AsksAll : (m : Lent) → WitnessSearch → (limit : ℕ) (targets sums answers counts answers′ counts′ : List ℕ) → Type 0
+AsksAll m x limit targets sums answers counts answers′ counts′ =
+    Each (Asking m x targets sums (length answers) (length counts))
+    (λ w s. Written answers counts answers′ counts′ (ask-each (w .graph) (x .avoid) limit targets sums s))
+
 -- between two searches
 pub record Resting (w : World) (arcs weights nodes labels : List ℕ) (heap base : ℕ) : Type 0 where
   pub standing : Standing w arcs weights nodes
   pub stamped : Stamped (w .n) labels base
   pub heap-room : 2 * (w .pool + 1) ≤ heap
+
+-- the next may begin
+pub record Startable (w : World) (arcs weights nodes labels : List ℕ) (heap base start : ℕ) : Type 0 where
+  pub resting : Resting w arcs weights nodes labels heap base
+  pub inside : start < w .n
+  pub fits : base + 3 < 2 ^ 64
+
+pub record AskingFrom (w : World) (arcs weights nodes labels : List ℕ) (heap base start : ℕ) (targets sums : List ℕ) (answers counts : ℕ) : Type 0 where
+  pub startable : Startable w arcs weights nodes labels heap base start
+  pub asks : Askable (w .n) targets sums answers counts
+
+abbrev pub AsksFrom : (arcs weights nodes labels : List ℕ) (heap base start avoid limit : ℕ) (targets sums answers counts answers′ counts′ : List ℕ) → Type 0
+AsksFrom arcs weights nodes labels heap base start avoid limit targets sums answers counts answers′ counts′ =
+    (w : World) → AskingFrom w arcs weights nodes labels heap base start targets sums (length answers) (length counts) →
+    Written answers counts answers′ counts′ (ask-each (w .graph) avoid limit targets sums (init start))
+
+abbrev pub world : ℕ → ℕ → Pool → List Arc → World
+world n pool state g = record { n = n; pool = pool; state = state; graph = g }
+
+-- the slices hold the graph of the links, and no label is of a search yet
+pub record Ground (n : ℕ) (l : Links) (arcs weights nodes labels : List ℕ) (heap base : ℕ) : Type 0 where
+  pub state : Pool
+  pub resting : Resting (world n (length (l .tails)) state (graph-of l)) arcs weights nodes labels heap base
+  pub fresh : base ≡ 0
+
+-- begun exactly where all fits
+pub record Begins (n : ℕ) (l : Links) (arcs weights nodes labels arcs′ weights′ nodes′ labels′ : List ℕ) (heap : ℕ) (r : Begun) : Type 0 where
+  pub decides : Decides (r .ok) (Fitting n l (length arcs) (length weights) (length nodes) (length labels) heap)
+  pub ground : r .ok ≡ true → Ground n l arcs′ weights′ nodes′ labels′ heap (r .search .base)
+
+-- what is handed to `witness_searches` fits
+pub record Searchable (n start : ℕ) (l : Links) (targets sums : List ℕ) (answers counts arcs weights nodes labels heap : ℕ) : Type 0 where
+  pub inside : start < n
+  pub asks : Askable n targets sums answers counts
+  pub fitting : Fitting n l arcs weights nodes labels heap
+
+-- its answer, for slices of these lengths
+pub record Searches (n : ℕ) (l : Links) (start avoid limit : ℕ) (targets sums answers counts answers′ counts′ : List ℕ) (arcs weights nodes labels heap : ℕ)
+    (r : Bool) : Type 0 where
+  pub decides : Decides r (Searchable n start l targets sums (length answers) (length counts) arcs weights nodes labels heap)
+  pub asked : r ≡ true → Written answers counts answers′ counts′ (ask-each (graph-of l) avoid limit targets sums (init start))
+  pub refused : r ≡ false → Written answers counts answers′ counts′ []

@@ -2,15 +2,17 @@
 // is tested here, so that anything may be handed in.
 ghost use mathlib.Core.Bool.{true, false};
 ghost use mathlib.Core.Path.{_≡_};
-ghost use Prim.Native.Nat.{ℕ, _<_, _≤_};
+ghost use Prim.Native.Nat.{_<_, _≤_};
 ghost use lib.ListN.{length};
 ghost use Rattle.rules.specs.Numbers.{maxWeight};
-ghost use Rattle.rules.specs.Search.{Search};
+ghost use Rattle.rules.proofs.Decides.{Decides};
+ghost use Rattle.graph.specs.Given.{links};
 ghost use Rattle.graph.specs.Promises.{Between};
 ghost use Rattle.search.specs.Labels.{Stamped};
-ghost use Rattle.search.specs.Searching.{World, lent, Ready};
-ghost use Rattle.searches.specs.Fits.{Enough, Askable, Ground};
-ghost use Rattle.searches.specs.Rounds.{Going, Went, Resting};
+ghost use Rattle.search.specs.Searching.{World, lent};
+ghost use Rattle.search.specs.Promises.{Some};
+ghost use Rattle.searches.specs.Fits.{Enough, Askable, Fitting};
+ghost use Rattle.searches.specs.Rounds.{Going, Went, Resting, Asking, AsksAll, AskingFrom, AsksFrom, Begins, Searches};
 use graph::preparation_graph::Added;
 use rules::INVALID;
 use rules::MAX_WEIGHT;
@@ -21,7 +23,7 @@ const BASE_MAX: u64 = 1000000000000000000;
 
 // Whether the columns are links between n nodes. Loops and order do not matter to a search.
 fn links_fit(n: usize, tails: &[u32], heads: &[u32], weights: &[u32]) -> bool
-    ensures { λ r. ⌜ (r ≡ true → Between n (now (tails .entry)) (now (heads .entry)) (now (weights .entry))) ⌝ }
+    ensures { λ r. ⌜ Decides r (Between n (now (tails .entry)) (now (heads .entry)) (now (weights .entry))) ⌝ }
 {
     let count = tails.len();
     if heads.len() != count {
@@ -53,7 +55,7 @@ fn lent_fits(
     labels: usize,
     heap: usize,
 ) -> bool
-    ensures { λ r. ⌜ (r ≡ true → Enough n pool arcs weights nodes labels heap) ⌝ }
+    ensures { λ r. ⌜ Decides r (Enough n pool arcs weights nodes labels heap) ⌝ }
 {
     if 1048576 < n {
         return false;
@@ -78,7 +80,7 @@ fn lent_fits(
 
 // Whether each target is a node and each sum small enough, and there is a place for each answer and count.
 fn asks_fit(n: usize, targets: &[u32], sums: &[u64], answers: usize, counts: usize) -> bool
-    ensures { λ r. ⌜ (r ≡ true → Askable n (now (targets .entry)) (now (sums .entry)) answers counts) ⌝ }
+    ensures { λ r. ⌜ Decides r (Askable n (now (targets .entry)) (now (sums .entry)) answers counts) ⌝ }
 {
     let asks = targets.len();
     if sums.len() != asks {
@@ -103,6 +105,26 @@ fn asks_fit(n: usize, targets: &[u32], sums: &[u64], answers: usize, counts: usi
     true
 }
 
+// Whether links are given, and slices of these lengths are enough for them.
+fn given_fits(
+    n: usize,
+    tails: &[u32],
+    heads: &[u32],
+    link_weights: &[u32],
+    arcs: usize,
+    weights: usize,
+    nodes: usize,
+    labels: usize,
+    heap: usize,
+) -> bool
+    ensures { λ r. ⌜ Decides r (Fitting n (links (now (tails .entry)) (now (heads .entry)) (now («link_weights» .entry))) arcs weights nodes labels heap) ⌝ }
+{
+    if !links_fit(n, tails, heads, link_weights) {
+        return false;
+    }
+    lent_fits(n, tails.len(), arcs, weights, nodes, labels, heap)
+}
+
 // One start for all targets: answers and settled counts.
 fn ask_all(
     arcs: &[u32],
@@ -117,8 +139,9 @@ fn ask_all(
     answers: &mut [u64],
     counts: &mut [u64],
 )
-    requires { ⌜ ((w : World) × (s : Search) × Ready w (lent (now arcs) (now weights) (now nodes) (now labels) (now heap)) (search .base) (search .len) (search .settled) s ×
-        Askable (w .n) (now targets) (now sums) (length (now answers)) (length (now counts))) ⌝ }
+    requires { ⌜ Some (Asking (lent (now arcs) (now weights) (now nodes) (now labels) (now heap)) search (now targets) (now sums) (length (now answers)) (length (now counts))) ⌝ }
+    ensures { λ _. ⌜ AsksAll (lent (now (arcs .entry)) (now (weights .entry)) (now (nodes .entry)) (now (labels .entry)) (now (heap .entry))) search limit
+        (now (targets .entry)) (now (sums .entry)) (now (answers .entry)) (now (counts .entry)) (now (answers .exit)) (now (counts .exit)) ⌝ }
 {
     let mut search = search;
     let mut k = 0;
@@ -157,8 +180,10 @@ fn ask_from(
     answers: &mut [u64],
     counts: &mut [u64],
 )
-    requires { ⌜ ((n : ℕ) × Ground n (now arcs) (now weights) (now nodes) (now labels) (length (now heap)) (fresh .base) × (start < n) ×
-        Askable n (now targets) (now sums) (length (now answers)) (length (now counts))) ⌝ }
+    requires { ⌜ ((w : World) × AskingFrom w (now arcs) (now weights) (now nodes) (now labels) (length (now heap)) (fresh .base) start
+        (now targets) (now sums) (length (now answers)) (length (now counts))) ⌝ }
+    ensures { λ _. ⌜ AsksFrom (now (arcs .entry)) (now (weights .entry)) (now (nodes .entry)) (now (labels .entry)) (length (now (heap .entry))) (fresh .base) start avoid limit
+        (now (targets .entry)) (now (sums .entry)) (now (answers .entry)) (now (counts .entry)) (now (answers .exit)) (now (counts .exit)) ⌝ }
 {
     let search = search::witness_search::init(labels, heap, fresh, start, avoid);
     ask_all(
@@ -176,7 +201,7 @@ fn ask_from(
     );
 }
 
-// The links' graph in the slices, and labels that no search has touched yet.
+// Where `ok`: the links' graph in the slices, and labels that no search has touched yet.
 struct Begun {
     ok: bool,
     search: WitnessSearch,
@@ -207,15 +232,15 @@ fn begin(
     labels: &mut [u64],
     heap: usize,
 ) -> Begun
-    ensures { λ r. ⌜ (r .ok ≡ true → Ground n (now (arcs .exit)) (now (weights .exit)) (now (nodes .exit)) (now (labels .exit)) heap (r .search .base)) ⌝ }
+    ensures { λ r. ⌜ Begins n (links (now (tails .entry)) (now (heads .entry)) (now («link_weights» .entry)))
+        (now (arcs .entry)) (now (weights .entry)) (now (nodes .entry)) (now (labels .entry))
+        (now (arcs .exit)) (now (weights .exit)) (now (nodes .exit)) (now (labels .exit)) heap r ⌝ }
 {
-    let pool = tails.len();
-    if !links_fit(n, tails, heads, link_weights) {
-        return refused();
-    }
-    if !lent_fits(
+    if !given_fits(
         n,
-        pool,
+        tails,
+        heads,
+        link_weights,
         arcs.len(),
         weights.len(),
         nodes.len(),
@@ -228,7 +253,7 @@ fn begin(
         arcs,
         weights,
         nodes,
-        pool as u32,
+        tails.len() as u32,
         n,
         tails,
         heads,
@@ -261,7 +286,11 @@ pub extern "C" fn witness_searches(
     nodes: &mut [u32],
     labels: &mut [u64],
     heap: &mut [u64],
-) -> bool {
+) -> bool
+    ensures { λ r. ⌜ Searches n (links (now (tails .entry)) (now (heads .entry)) (now («link_weights» .entry))) start avoid limit
+        (now (targets .entry)) (now (sums .entry)) (now (answers .entry)) (now (counts .entry)) (now (answers .exit)) (now (counts .exit))
+        (length (now (arcs .entry))) (length (now (weights .entry))) (length (now (nodes .entry))) (length (now (labels .entry))) (length (now (heap .entry))) r ⌝ }
+{
     if n <= start as usize {
         return false;
     }

@@ -1,7 +1,8 @@
 -- What was begun is ground for all nodes.
 use native.Mathlib.Omega.{arith}
 use borrow.Author.Tests.{not-false}
-use Rattle.searches.proofs.Rounds.{grounded}
+use mathlib.Core.Path.{refl}
+use Rattle.searches.proofs.Rounds.{graph-there}
 use borrow.Author.Needs.{needs}
 use Rattle.searches.proofs.all_pairs.Statement.{statement}
 use Rattle.searches.proofs.all_pairs.Tie as tie
@@ -30,7 +31,7 @@ returns-2 : tie.Need-returns-2
 returns-2 c = search needs
 
 all-nodes-requires : tie.Need-all-nodes-requires
-all-nodes-requires c κs = grounded (c .before .before .before .before .before .before .before .before .before .before .before .before .before .before .before .before .begin .ensures (not-false _ (c .before .before .before .before .before .before .if2 .left))) (omega (arith, c .before .before .before .before .before .before .before .before .before .before .before .before .before .before .before .before .before .before .before .before .before .if1 .left))
+all-nodes-requires c κs = let ground = c .before .before .before .before .before .before .before .before .before .before .before .before .before .before .before .before .begin .ensures .ground (not-false _ (c .before .before .before .before .before .before .if2 .left)) in (graph-there ground, refl, omega (arith, c .before .before .before .before .before .before .before .before .before .before .before .before .before .before .before .before .before .before .before .before .before .if1 .left), ground .resting)
 
 same-length-5 : tie.Need-same-length-5
 same-length-5 c = search needs

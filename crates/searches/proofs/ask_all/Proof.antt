@@ -1,11 +1,12 @@
--- The invariant: some graph and some search stand, and every target can be asked for.
+-- The invariant: of every graph and search that stood, what was asked so far is written, and with the rest it comes to the whole.
 use mathlib.Core.Path.{_≡_, refl, sym, _∙_, ap}
 use Prim.Native.Nat.{ℕ, _-_, _≤_}
 use native.Mathlib.Omega.{arith}
 use lib.ListN.{length}
-use Rattle.rules.specs.Search.{Search}
-use Rattle.search.specs.Searching.{World, lent, Ready}
-use Rattle.searches.specs.Fits.{Askable}
+use Rattle.search.specs.Searching.{lent}
+use Rattle.search.specs.Promises.{Each}
+use Rattle.searches.specs.Rounds.{Asking}
+use Rattle.searches.proofs.Answers.{SoFar, none-so-far, next-asked, one-more, all-asked}
 use borrow.Author.Needs.{needs}
 use Rattle.searches.proofs.ask_all.Statement.{statement}
 use Rattle.searches.proofs.ask_all.Tie as tie
@@ -17,14 +18,14 @@ abbrev Inv-loop : tie.InvT-loop
 Inv-loop arcs weights nodes labels₀ heap₀ limit targets sums answers₀ counts₀ search₀ k₀ labels heap answers counts search k =
     (k ≤ length targets) × (length labels ≡ length labels₀) × (length heap ≡ length heap₀) × (length answers ≡ length answers₀) ×
     (length counts ≡ length counts₀) ×
-    ((w : World) × (s : Search) × Ready w (lent arcs weights nodes labels heap) (search .base) (search .len) (search .settled) s ×
-    Askable (w .n) targets sums (length answers₀) (length counts₀))
+    Each (Asking (lent arcs weights nodes labels₀ heap₀) search₀ targets sums (length answers₀) (length counts₀))
+    (SoFar (lent arcs weights nodes labels heap) search₀ search limit k targets sums answers₀ counts₀ answers counts)
 
 abbrev μ-loop : tie.MeasureT-loop
 μ-loop arcs weights nodes labels₀ heap₀ limit targets sums answers₀ counts₀ search₀ k₀ labels heap answers counts search k = length targets - k
 
 loop-holds : tie.Need-loop-holds Inv-loop μ-loop
-loop-holds c = (omega arith, refl, refl, refl, refl, c .before .before .before .before .before .before .before .before .before .pre)
+loop-holds c = (omega arith, refl, refl, refl, refl, λ w s x. none-so-far _ _ (x .ready))
 
 mul-find-max-weight : tie.Need-mul-find-max-weight Inv-loop μ-loop
 mul-find-max-weight c = search needs
@@ -40,17 +41,9 @@ shared-slice-read-find-max-weight-2 c = search needs
 
 find-max-weight-requires : tie.Need-find-max-weight-requires Inv-loop μ-loop
 find-max-weight-requires c κs =
-    let loop = c .before .before .before .before .before .loop in
-    let below = c .before .before .before .before .loop-test .taken in
-    let here = loop .inv .5 in (
-      here .0,
-      here .1,
-      record {
-        ready = here .2;
-        inside = here .3 .inside (loop .k) below;
-        small = here .3 .small (loop .k) below;
-      },
-    )
+    let p = c .before .before .before .before .before .before .before .before .before .before .before .before .before .before .before .pre in
+    let y = c .before .before .before .before .before .loop .inv .5 (p .0) (p .1) (p .2) in
+    (p .0, y .search, next-asked y (p .2 .asks) (c .before .before .before .before .loop-test .taken))
 
 mul-answers : tie.Need-mul-answers Inv-loop μ-loop
 mul-answers c = omega (arith, c .before .before .before .before .before .before .before .before .before .loop-test .taken, c .before .before .before .before .before .before .before .before .before .before .before .before .before .before .before .before .before .before .before .before)
@@ -74,21 +67,15 @@ loop-again : tie.Need-loop-again Inv-loop μ-loop
 loop-again c =
     let loop = c .before .before .before .before .before .before .before .before .before .before .before .loop in
     let below = c .before .before .before .before .before .before .before .before .before .before .loop-test .taken in
-    let here = loop .inv .5 in
-    let answered =
-    c .before .before .before .before .before .find-max-weight .ensures (here .0) (here .1)
-    (record {
-      ready = here .2;
-      inside = here .3 .inside (loop .k) below;
-      small = here .3 .small (loop .k) below;
-    })
-    in (
+    let asked = c .before .before .before .before .before .find-max-weight in (
       omega (arith, below),
       search needs,
       search needs,
       search needs,
       search needs,
-      (here .0, _, answered .ready, here .3),
+      λ w s x.
+          let y = loop .inv .5 w s x in
+          one-more y (x .asks) below (asked .result) (asked .ensures w (y .search) (next-asked y (x .asks) below)),
     )
 
 same-length : tie.Need-same-length Inv-loop μ-loop
@@ -104,7 +91,7 @@ same-length-4 : tie.Need-same-length-4 Inv-loop μ-loop
 same-length-4 c = search needs
 
 returns : tie.Need-returns Inv-loop μ-loop
-returns c = search needs
+returns c = λ w s x. all-asked (c .before .loop .inv .5 w s x) (c .loop-test .left)
 
 pub ask-all-spec : {M : Type 1} → statement M
 ask-all-spec =

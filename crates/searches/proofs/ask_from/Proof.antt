@@ -1,8 +1,7 @@
 -- The ground is what a search starts on, and the start is what its targets are asked of.
 use native.Mathlib.Omega.{arith}
 use borrow.Author.Needs.{needs}
-use Rattle.search.proofs.Laws.{started-ready}
-use Rattle.searches.proofs.Rounds.{ready-to-start}
+use Rattle.searches.proofs.Rounds.{starting, started}
 use Rattle.searches.proofs.ask_from.Statement.{statement}
 use Rattle.searches.proofs.ask_from.Tie as tie
 use Rattle.searches.proofs.ask_from.Reads as reads
@@ -11,17 +10,15 @@ use Rattle.search.proofs.witness_search.init.Reads as init-reads
 use Rattle.searches.proofs.ask_all.Reads as ask-all-reads
 
 init-requires : tie.Need-init-requires
-init-requires c κs = (c .before .before .before .before .before .before .before .before .before .before .before .pre .1 .world .n, ready-to-start (c .before .before .before .before .before .before .before .before .before .before .before .pre .1) (c .before .before .before .before .before .before .before .before .before .before .before .pre .2))
+init-requires c κs = let p = c .before .before .before .before .before .before .before .before .before .before .before .pre in (p .0 .n, starting (p .1 .startable))
 
 ask-all-requires : tie.Need-ask-all-requires
 ask-all-requires c κs =
-    let ground = c .before .before .before .before .before .before .before .before .before .before .before .before .before .before .before .before .before .before .before .before .pre .1 in
-    let init = c .before .before .before .before .before .before .before .before .init in
-    let started = init .ensures (ground .world .n) (ready-to-start ground (c .before .before .before .before .before .before .before .before .before .before .before .before .before .before .before .before .before .before .before .before .pre .2)) in (
-      ground .world,
+    let p = c .before .before .before .before .before .before .before .before .before .before .before .before .before .before .before .before .before .before .before .before .pre in
+    let init = c .before .before .before .before .before .before .before .before .init in (
+      p .0,
       _,
-      started-ready (init .result) started (ground .standing) (omega (arith, ground .heap-room, c .before .before .before .before .before .heap .given)),
-      rw (ground .nodes-are) (c .before .before .before .before .before .before .before .before .before .before .before .before .before .before .before .before .before .before .before .before .pre .3),
+      record { ready = started (init .result) (p .1 .startable .resting) (init .ensures (p .0 .n) (starting (p .1 .startable))) (init .kept .1 .0); asks = p .1 .asks },
     )
 
 same-length : tie.Need-same-length
@@ -37,7 +34,12 @@ same-length-4 : tie.Need-same-length-4
 same-length-4 c = search needs
 
 returns : tie.Need-returns
-returns c = search needs
+returns c =
+    λ w x.
+    let init = c .before .before .before .before .before .before .before .before .before .before .before .before .before .before .before .before .before .init in
+    let s = init .ensures (w .n) (starting (x .startable)) in
+    rw (s .avoids) at
+    (c .before .before .before .before .before .before .before .before .ask-all .ensures w _ (record { ready = started (init .result) (x .startable .resting) s (init .kept .1 .0); asks = x .asks }))
 
 pub ask-from-spec : {M : Type 1} → statement M
 ask-from-spec =

@@ -1,42 +1,42 @@
--- Each test left one fact.
-use mathlib.Core.Bool.{false≢true}
+-- Each test is of one fact.
 use mathlib.Core.Path.{_≡_, refl, sym, _∙_}
 use Prim.Native.Nat.{ℕ, _-_, _+_, _*_, _≤_, _<_}
 use native.Mathlib.Omega.{arith}
-use borrow.Author.Tests.{leb-true}
+use borrow.Author.Tests.{leb-true, le-leb}
 use lib.ListN.{length, getD}
 use borrow.Author.Needs.{needs}
+use Rattle.searches.proofs.Deciding.{no}
 use Rattle.searches.proofs.lent_fits.Statement.{statement}
 use Rattle.searches.proofs.lent_fits.Tie as tie
 use Rattle.searches.proofs.lent_fits.Reads as reads
 use Rattle.searches.proofs.lent_fits.Lts as lts
 
 returns : tie.Need-returns
-returns c = λ e. absurd (false≢true e)
+returns c = no (λ p. omega (arith, p .few-nodes))
 
 returns-2 : tie.Need-returns-2
-returns-2 c = λ e. absurd (false≢true e)
+returns-2 c = no (λ p. omega (arith, p .few-places))
 
 mul-if3 : tie.Need-mul-if3
 mul-if3 c = search needs
 
 returns-3 : tie.Need-returns-3
-returns-3 c = λ e. absurd (false≢true e)
+returns-3 c = no (λ p. omega (arith, p .arcs-room))
 
 returns-4 : tie.Need-returns-4
-returns-4 c = λ e. absurd (false≢true e)
+returns-4 c = no (λ p. omega (arith, p .weights-room))
 
 mul-if5 : tie.Need-mul-if5
 mul-if5 c = search needs
 
 returns-5 : tie.Need-returns-5
-returns-5 c = λ e. absurd (false≢true e)
+returns-5 c = no (λ p. omega (arith, p .nodes-room))
 
 mul-if6 : tie.Need-mul-if6
 mul-if6 c = search needs
 
 returns-6 : tie.Need-returns-6
-returns-6 c = λ e. absurd (false≢true e)
+returns-6 c = no (λ p. omega (arith, p .labels-room))
 
 add-result : tie.Need-add-result
 add-result c = search needs
@@ -45,17 +45,19 @@ mul-result : tie.Need-mul-result
 mul-result c = search needs
 
 returns-7 : tie.Need-returns-7
-returns-7 c =
-    λ e.
-    record {
-      few-nodes = c .before .before .before .before .before .if1 .left;
-      few-places = c .before .before .before .before .if2 .left;
-      arcs-room = c .before .before .before .if3 .left;
-      weights-room = c .before .before .if4 .left;
-      nodes-room = c .before .if5 .left;
-      labels-room = c .if6 .left;
-      heap-room = leb-true _ _ e;
-    }
+returns-7 c = (
+  λ e.
+      record {
+        few-nodes = c .before .before .before .before .before .if1 .left;
+        few-places = c .before .before .before .before .if2 .left;
+        arcs-room = c .before .before .before .if3 .left;
+        weights-room = c .before .before .if4 .left;
+        nodes-room = c .before .if5 .left;
+        labels-room = c .if6 .left;
+        heap-room = leb-true _ _ e;
+      },
+  λ p. le-leb _ _ (p .heap-room),
+)
 
 pub lent-fits-spec : {M : Type 1} → statement M
 lent-fits-spec =

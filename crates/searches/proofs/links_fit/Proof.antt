@@ -1,10 +1,10 @@
--- Every link that was passed joins nodes below n.
-use mathlib.Core.Bool.{false≢true}
+-- Every link that was passed joins nodes below n; one that does not is a ground to refuse.
 use mathlib.Core.Path.{_≡_, refl, sym, _∙_}
 use Prim.Native.Nat.{ℕ, _-_, _+_, _*_, _≤_, _<_}
 use native.Mathlib.Omega.{arith}
 use borrow.Author.Count.{below-more}
 use lib.ListN.{length, getD}
+use Rattle.searches.proofs.Deciding.{yes, no}
 use borrow.Author.Needs.{needs}
 use Rattle.searches.proofs.links_fit.Statement.{statement}
 use Rattle.searches.proofs.links_fit.Tie as tie
@@ -20,10 +20,10 @@ abbrev μ-loop : tie.MeasureT-loop
 μ-loop n tails heads weights count i₀ i = count - i
 
 returns : tie.Need-returns Inv-loop μ-loop
-returns c = λ e. absurd (false≢true e)
+returns c = no (λ p. c .if1 .taken (p .even .heads))
 
 returns-2 : tie.Need-returns-2 Inv-loop μ-loop
-returns-2 c = λ e. absurd (false≢true e)
+returns-2 c = no (λ p. c .if2 .taken (p .even .weights))
 
 loop-holds : tie.Need-loop-holds Inv-loop μ-loop
 loop-holds c = (omega arith, refl, search needs, search needs, λ k h. absurd (omega arith), λ k h. absurd (omega arith))
@@ -38,7 +38,7 @@ cast-if3 : tie.Need-cast-if3 Inv-loop μ-loop
 cast-if3 c = omega (arith, c .shared-slice-known .given (c .before .before .loop .i))
 
 returns-3 : tie.Need-returns-3 Inv-loop μ-loop
-returns-3 c = λ e. absurd (false≢true e)
+returns-3 c = no (λ p. omega (arith, c .if3 .taken, p .tails (c .before .before .before .loop .i) (omega (arith, c .before .before .loop-test .taken))))
 
 mul-if4 : tie.Need-mul-if4 Inv-loop μ-loop
 mul-if4 c = search needs
@@ -50,7 +50,7 @@ cast-if4 : tie.Need-cast-if4 Inv-loop μ-loop
 cast-if4 c = omega (arith, c .shared-slice-known2 .given (c .before .before .before .before .loop .i))
 
 returns-4 : tie.Need-returns-4 Inv-loop μ-loop
-returns-4 c = λ e. absurd (false≢true e)
+returns-4 c = no (λ p. omega (arith, c .if4 .taken, p .heads (c .before .before .before .before .before .loop .i) (omega (arith, c .before .before .before .before .loop-test .taken))))
 
 add-i : tie.Need-add-i Inv-loop μ-loop
 add-i c = search needs
@@ -70,12 +70,12 @@ loop-again c = (
 
 returns-5 : tie.Need-returns-5 Inv-loop μ-loop
 returns-5 c =
-    λ _.
-    record {
+    yes
+    (record {
       even = record { heads = c .before .loop .inv .2; weights = c .before .loop .inv .3 };
       tails = λ k h. c .before .loop .inv .4 k (omega (arith, c .before .loop .inv .1, c .loop-test .left));
       heads = λ k h. c .before .loop .inv .5 k (omega (arith, c .before .loop .inv .1, c .loop-test .left));
-    }
+    })
 
 pub links-fit-spec : {M : Type 1} → statement M
 links-fit-spec =

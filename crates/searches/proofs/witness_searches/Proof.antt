@@ -1,5 +1,10 @@
--- The ground that `begin` lays is what `ask_from` asks.
-use borrow.Author.Tests.{not-false}
+-- Each test that fails is a ground to refuse; the ground that `begin` lays is what `ask_from` asks.
+use mathlib.Core.Bool.{false≢true}
+use mathlib.Core.Path.{sym}
+use native.Mathlib.Omega.{arith}
+use borrow.Author.Tests.{not-true, not-false}
+use Rattle.searches.proofs.Deciding.{yes, denied}
+use Rattle.searches.proofs.Rounds.{turned-away, graph-there, from-ground}
 use borrow.Author.Needs.{needs}
 use Rattle.searches.proofs.witness_searches.Statement.{statement}
 use Rattle.searches.proofs.witness_searches.Tie as tie
@@ -10,13 +15,13 @@ use Rattle.searches.proofs.asks_fit.Reads as asks-fit-reads
 use Rattle.searches.proofs.begin.Reads as begin-reads
 
 returns : tie.Need-returns
-returns c = search needs
+returns c = turned-away (λ p. omega (arith, c .if1 .taken, p .inside))
 
 asks-fit-requires : tie.Need-asks-fit-requires
 asks-fit-requires c κs = search needs
 
 returns-2 : tie.Need-returns-2
-returns-2 c = search needs
+returns-2 c = turned-away (λ p. denied (c .before .asks-fit .ensures) (not-true _ (c .if2 .taken)) (p .asks))
 
 begin-requires : tie.Need-begin-requires
 begin-requires c κs = search needs
@@ -34,15 +39,12 @@ same-length-4 : tie.Need-same-length-4
 same-length-4 c = search needs
 
 returns-3 : tie.Need-returns-3
-returns-3 c = search needs
+returns-3 c = turned-away (λ p. denied (c .before .before .before .before .before .before .before .before .before .before .begin .ensures .decides) (not-true _ (c .if3 .taken)) (p .fitting))
 
 ask-from-requires : tie.Need-ask-from-requires
-ask-from-requires c κs = (
-  _,
-  c .before .before .before .before .before .before .before .before .before .before .before .before .before .before .before .before .before .begin .ensures (not-false _ (c .before .before .before .before .before .before .before .if3 .left)),
-  c .before .before .before .before .before .before .before .before .before .before .before .before .before .before .before .before .before .before .before .before .before .before .before .before .if1 .left,
-  c .before .before .before .before .before .before .before .before .before .before .before .before .before .before .before .before .before .before .before .before .before .before .before .asks-fit .ensures (not-false _ (c .before .before .before .before .before .before .before .before .before .before .before .before .before .before .before .before .before .before .before .before .before .before .if2 .left)),
-)
+ask-from-requires c κs =
+    let ground = c .before .before .before .before .before .before .before .before .before .before .before .before .before .before .before .before .before .begin .ensures .ground (not-false _ (c .before .before .before .before .before .before .before .if3 .left)) in
+    (graph-there ground, from-ground ground (c .before .before .before .before .before .before .before .before .before .before .before .before .before .before .before .before .before .before .before .before .before .before .before .before .if1 .left) (c .before .before .before .before .before .before .before .before .before .before .before .before .before .before .before .before .before .before .before .before .before .before .before .asks-fit .ensures .0 (not-false _ (c .before .before .before .before .before .before .before .before .before .before .before .before .before .before .before .before .before .before .before .before .before .before .if2 .left))))
 
 same-length-5 : tie.Need-same-length-5
 same-length-5 c = search needs
@@ -66,7 +68,17 @@ same-length-11 : tie.Need-same-length-11
 same-length-11 c = search needs
 
 returns-4 : tie.Need-returns-4
-returns-4 c = search needs
+returns-4 c =
+    let begun = c .before .before .before .before .before .before .before .before .before .before .before .before .before .before .before .before .before .before .before .before .before .before .before .before .before .before .begin .ensures in
+    let ok = not-false _ (c .before .before .before .before .before .before .before .before .before .before .before .before .before .before .before .before .if3 .left) in
+    let asks = c .before .before .before .before .before .before .before .before .before .before .before .before .before .before .before .before .before .before .before .before .before .before .before .before .before .before .before .before .before .before .before .before .asks-fit .ensures .0 (not-false _ (c .before .before .before .before .before .before .before .before .before .before .before .before .before .before .before .before .before .before .before .before .before .before .before .before .before .before .before .before .before .before .before .if2 .left)) in
+    let inside = c .before .before .before .before .before .before .before .before .before .before .before .before .before .before .before .before .before .before .before .before .before .before .before .before .before .before .before .before .before .before .before .before .before .if1 .left in
+    let ground = begun .ground ok in
+    record {
+      decides = yes (record { inside = inside; asks = asks; fitting = begun .decides .0 ok });
+      asked = λ _. c .before .before .before .before .before .before .before .before .ask-from .ensures (graph-there ground) (from-ground ground inside asks);
+      refused = λ e. absurd (false≢true (sym e));
+    }
 
 pub witness-searches-spec : {M : Type 1} → statement M
 witness-searches-spec =
