@@ -3,3 +3,5 @@ pub mod Deciding
 pub mod Links
 pub mod Answers
 pub mod Rounds
+pub mod Walks
+pub mod Pairs

@@ -1,12 +1,13 @@
 -- What the functions ask and promise: the graph and the search are no values of the code, as in crates/search.
 use mathlib.Core.Bool.{Bool, true, false}
-use mathlib.Core.List.{List, []}
+use mathlib.Core.List.{List, [], foldl}
 use mathlib.Core.Path.{_≡_}
 use Prim.Native.Nat.{ℕ, _+_, _*_, _^_, _<_, _≤_}
 use lib.ListN.{length}
+use Rattle.rules.specs.Numbers.{maxWeight}
 use Rattle.rules.specs.Lists.{over}
 use Rattle.rules.specs.Columns.{Links}
-use Rattle.rules.specs.Graph.{Arc}
+use Rattle.rules.specs.Graph.{Arc, outs, ins}
 use Rattle.rules.specs.Search.{Search, Found, init}
 use Rattle.rules.proofs.Decides.{Decides}
 use Rattle.graph.specs.declared.preparation_graph.Pool.{Pool}
@@ -15,18 +16,9 @@ use Rattle.search.specs.Labels.{Stamped}
 use Rattle.search.specs.Searching.{World, Standing, Lent, Ready}
 use Rattle.search.specs.Promises.{Each}
 use Rattle.searches.specs.declared.Begun.{Begun}
-use Rattle.searches.specs.Asks.{graph-of, ask-each, weights-of, counts-of}
+use Rattle.searches.specs.declared.Run.{Run}
+use Rattle.searches.specs.Asks.{graph-of, ask-each, weights-of, counts-of, Tally, tally, ask-pair, out-pair, from-tail, node-pairs, all-pairs}
 use Rattle.searches.specs.Fits.{Askable, Fitting}
-
--- a search is in the midst of its targets
-pub record Going (w : World) (m : Lent) (x : WitnessSearch) : Type 0 where
-  pub search : Search
-  pub ready : Ready w m (x .base) (x .len) (x .settled) search
-
--- it still is, after some more of them
-pub record Went (w : World) (m : Lent) (x y : WitnessSearch) : Type 0 where
-  pub going : Going w m y
-  pub base : y .base ≡ x .base
 
 -- what was found stands at the front of the answers and counts, whose other places are as they were
 pub record Written (answers counts answers′ counts′ : List ℕ) (found : List Found) : Type 0 where
@@ -72,6 +64,8 @@ pub record Ground (n : ℕ) (l : Links) (arcs weights nodes labels : List ℕ) (
   pub state : Pool
   pub resting : Resting (world n (length (l .tails)) state (graph-of l)) arcs weights nodes labels heap base
   pub fresh : base ≡ 0
+  pub few-nodes : n ≤ 1048576
+  pub few-places : length (l .tails) ≤ 16777216
 
 -- begun exactly where all fits
 pub record Begins (n : ℕ) (l : Links) (arcs weights nodes labels arcs′ weights′ nodes′ labels′ : List ℕ) (heap : ℕ) (r : Begun) : Type 0 where
@@ -90,3 +84,63 @@ pub record Searches (n : ℕ) (l : Links) (start avoid limit : ℕ) (targets sum
   pub decides : Decides r (Searchable n start l targets sums (length answers) (length counts) arcs weights nodes labels heap)
   pub asked : r ≡ true → Written answers counts answers′ counts′ (ask-each (graph-of l) avoid limit targets sums (init start))
   pub refused : r ≡ false → Written answers counts answers′ counts′ []
+
+-- a pair is to be asked for
+pub record Pairing (m : Lent) (x : WitnessSearch) (head : ℕ) (w : World) (s : Search) : Type 0 where
+  pub ready : Ready w m (x .base) (x .len) (x .settled) s
+  pub inside : head < w .n
+
+-- the run came to this tally, and its search is still the same
+pub record Went (m : Lent) (x r : Run) (w : World) (t : Tally) : Type 0 where
+  pub ready : Ready w m (r .search .base) (r .search .len) (r .search .settled) (t .search)
+  pub total : r .total ≡ t .total
+  pub base : r .search .base ≡ x .search .base
+  pub avoid : r .search .avoid ≡ x .search .avoid
+
+abbrev pub Pairs : (m m′ : Lent) → Run → (tail head sum limit : ℕ) → Run → Type 0
+Pairs m m′ x tail head sum limit r =
+    Each (Pairing m (x .search) head) (λ w s. Went m′ x r w (ask-pair (w .graph) limit (x .search .avoid) tail head sum (tally s (x .total))))
+
+-- the out-arcs of v are to be passed
+pub record Leaving (m : Lent) (x : WitnessSearch) (v weight : ℕ) (w : World) (s : Search) : Type 0 where
+  pub ready : Ready w m (x .base) (x .len) (x .settled) s
+  pub inside : v < w .n
+  pub light : weight ≤ maxWeight
+
+abbrev pub Leaves : (m m′ : Lent) → Run → (v tail weight limit : ℕ) → Run → Type 0
+Leaves m m′ x v tail weight limit r =
+    Each (Leaving m (x .search) v weight)
+    (λ w s. Went m′ x r w (foldl (out-pair (w .graph) limit (x .search .avoid) tail weight) (tally s (x .total)) (outs (w .graph) v)))
+
+-- so many searches later, and with this sum
+pub record Rested (n : ℕ) (labels : List ℕ) (base searches total : ℕ) (r : Run) : Type 0 where
+  pub stamped : Stamped n labels (r .search .base)
+  pub base-is : r .search .base ≡ base + 2 * searches
+  pub total-is : r .total ≡ total
+
+-- an in-arc of v is to be gone through
+pub record Coming (w : World) (arcs weights nodes labels : List ℕ) (heap base v tail weight : ℕ) : Type 0 where
+  pub startable : Startable w arcs weights nodes labels heap base tail
+  pub node : v < w .n
+  pub light : weight ≤ maxWeight
+
+abbrev pub Comes : (arcs weights nodes labels labels′ : List ℕ) (heap : ℕ) → Run → (v tail weight limit : ℕ) → Run → Type 0
+Comes arcs weights nodes labels labels′ heap x v tail weight limit r =
+    (w : World) → Coming w arcs weights nodes labels heap (x .search .base) v tail weight →
+    Rested (w .n) labels′ (x .search .base) 1 (from-tail (w .graph) limit v tail weight (x .total)) r
+
+-- and all of them, for which there are stamps
+pub record Entering (w : World) (arcs weights nodes labels : List ℕ) (heap base v : ℕ) : Type 0 where
+  pub resting : Resting w arcs weights nodes labels heap base
+  pub node : v < w .n
+  pub fits : base + 2 * w .pool + 3 < 2 ^ 64
+
+abbrev pub Enters : (arcs weights nodes labels labels′ : List ℕ) (heap : ℕ) → Run → (v limit : ℕ) → Run → Type 0
+Enters arcs weights nodes labels labels′ heap x v limit r =
+    (w : World) → Entering w arcs weights nodes labels heap (x .search .base) v →
+    Rested (w .n) labels′ (x .search .base) (length (ins (w .graph) v)) (node-pairs (w .graph) limit (x .total) v) r
+
+-- what `all_pairs` answers, for slices of these lengths
+pub record Sums (n : ℕ) (l : Links) (limit arcs weights nodes labels heap r : ℕ) : Type 0 where
+  pub fit : Fitting n l arcs weights nodes labels heap → r ≡ all-pairs (graph-of l) limit n
+  pub unfit : (Fitting n l arcs weights nodes labels heap → ⊥) → r ≡ 0

@@ -1,25 +1,21 @@
 // Witness searches over a graph that is handed in as links, for tests and for timing. What the crates below ask of their callers
 // is tested here, so that anything may be handed in.
-ghost use mathlib.Core.Bool.{true, false};
+ghost use mathlib.Core.Bool.{false};
 ghost use mathlib.Core.Path.{_≡_};
-ghost use Prim.Native.Nat.{_<_, _≤_};
 ghost use lib.ListN.{length};
-ghost use Rattle.rules.specs.Numbers.{maxWeight};
+ghost use Rattle.rules.specs.Columns.{Links};
 ghost use Rattle.rules.proofs.Decides.{Decides};
 ghost use Rattle.graph.specs.Given.{links};
 ghost use Rattle.graph.specs.Promises.{Between};
-ghost use Rattle.search.specs.Labels.{Stamped};
 ghost use Rattle.search.specs.Searching.{World, lent};
 ghost use Rattle.search.specs.Promises.{Some};
 ghost use Rattle.searches.specs.Fits.{Enough, Askable, Fitting};
-ghost use Rattle.searches.specs.Rounds.{Going, Went, Resting, Asking, AsksAll, AskingFrom, AsksFrom, Begins, Searches};
+ghost use Rattle.searches.specs.Asks.{graph-of, add-in, all-pairs};
+ghost use Rattle.searches.specs.Rounds.{Asking, AsksAll, AskingFrom, AsksFrom, Ground, Begins, Searches, Pairing, Pairs, Leaving, Leaves, Coming, Comes, Entering, Enters, Sums};
 use graph::preparation_graph::Added;
 use rules::INVALID;
 use rules::MAX_WEIGHT;
 use search::witness_search::WitnessSearch;
-
-// So many searches, and more than any run makes: their stamps fit.
-const BASE_MAX: u64 = 1000000000000000000;
 
 // Whether the columns are links between n nodes. Loops and order do not matter to a search.
 fn links_fit(n: usize, tails: &[u32], heads: &[u32], weights: &[u32]) -> bool
@@ -335,7 +331,9 @@ struct Run {
     total: u64,
 }
 
-fn count_in(total: u64, weight: u64, settled: u64) -> u64 {
+fn count_in(total: u64, weight: u64, settled: u64) -> u64
+    ensures { λ r. ⌜ r ≡ add-in total weight settled ⌝ }
+{
     std::num::wrapping_add_u64(total, std::num::wrapping_add_u64(weight, settled))
 }
 
@@ -352,9 +350,9 @@ fn ask_pair(
     sum: u64,
     limit: u32,
 ) -> Run
-    requires { ⌜ ((w : World) × Going w (lent (now arcs) (now weights) (now nodes) (now labels) (now heap)) (run .search) × (head < w .n)) ⌝ }
-    ensures { λ r. ⌜ ((w : World) → Going w (lent (now (arcs .entry)) (now (weights .entry)) (now (nodes .entry)) (now (labels .entry)) (now (heap .entry))) (run .search) → head < w .n →
-        Went w (lent (now (arcs .entry)) (now (weights .entry)) (now (nodes .entry)) (now (labels .exit)) (now (heap .exit))) (run .search) (r .search)) ⌝ }
+    requires { ⌜ Some (Pairing (lent (now arcs) (now weights) (now nodes) (now labels) (now heap)) (run .search) head) ⌝ }
+    ensures { λ r. ⌜ Pairs (lent (now (arcs .entry)) (now (weights .entry)) (now (nodes .entry)) (now (labels .entry)) (now (heap .entry)))
+        (lent (now (arcs .entry)) (now (weights .entry)) (now (nodes .entry)) (now (labels .exit)) (now (heap .exit))) run tail head sum limit r ⌝ }
 {
     if head == tail {
         return run;
@@ -392,9 +390,9 @@ fn out_arcs(
     weight: u64,
     limit: u32,
 ) -> Run
-    requires { ⌜ ((w : World) × Going w (lent (now arcs) (now weights) (now nodes) (now labels) (now heap)) (run .search) × (v < w .n) × (weight ≤ maxWeight)) ⌝ }
-    ensures { λ r. ⌜ ((w : World) → Going w (lent (now (arcs .entry)) (now (weights .entry)) (now (nodes .entry)) (now (labels .entry)) (now (heap .entry))) (run .search) → v < w .n →
-        Went w (lent (now (arcs .entry)) (now (weights .entry)) (now (nodes .entry)) (now (labels .exit)) (now (heap .exit))) (run .search) (r .search)) ⌝ }
+    requires { ⌜ Some (Leaving (lent (now arcs) (now weights) (now nodes) (now labels) (now heap)) (run .search) v weight) ⌝ }
+    ensures { λ r. ⌜ Leaves (lent (now (arcs .entry)) (now (weights .entry)) (now (nodes .entry)) (now (labels .entry)) (now (heap .entry)))
+        (lent (now (arcs .entry)) (now (weights .entry)) (now (nodes .entry)) (now (labels .exit)) (now (heap .exit))) run v tail weight limit r ⌝ }
 {
     let mut run = run;
     let mut place = nodes[4 * v as usize];
@@ -430,14 +428,10 @@ fn from_tail(
     weight: u64,
     limit: u32,
 ) -> Run
-    requires { ⌜ ((w : World) × Resting w (now arcs) (now weights) (now nodes) (now labels) (length (now heap)) (run .search .base) × (v < w .n) × (tail < w .n) × (weight ≤ maxWeight)) ⌝ }
-    ensures { λ r. ⌜ ((w : World) → Resting w (now (arcs .entry)) (now (weights .entry)) (now (nodes .entry)) (now (labels .entry)) (length (now (heap .entry))) (run .search .base) → v < w .n → tail < w .n →
-        Stamped (w .n) (now (labels .exit)) (r .search .base)) ⌝ }
+    requires { ⌜ ((w : World) × Coming w (now arcs) (now weights) (now nodes) (now labels) (length (now heap)) (run .search .base) v tail weight) ⌝ }
+    ensures { λ r. ⌜ Comes (now (arcs .entry)) (now (weights .entry)) (now (nodes .entry)) (now (labels .entry)) (now (labels .exit)) (length (now (heap .entry))) run v tail weight limit r ⌝ }
 {
     let rested = run.search;
-    if BASE_MAX <= rested.base {
-        return run;
-    }
     let search = search::witness_search::init(labels, heap, rested, tail, v);
     out_arcs(
         arcs,
@@ -467,9 +461,8 @@ fn in_arcs(
     v: u32,
     limit: u32,
 ) -> Run
-    requires { ⌜ ((w : World) × Resting w (now arcs) (now weights) (now nodes) (now labels) (length (now heap)) (run .search .base) × (v < w .n)) ⌝ }
-    ensures { λ r. ⌜ ((w : World) → Resting w (now (arcs .entry)) (now (weights .entry)) (now (nodes .entry)) (now (labels .entry)) (length (now (heap .entry))) (run .search .base) → v < w .n →
-        Stamped (w .n) (now (labels .exit)) (r .search .base)) ⌝ }
+    requires { ⌜ ((w : World) × Entering w (now arcs) (now weights) (now nodes) (now labels) (length (now heap)) (run .search .base) v) ⌝ }
+    ensures { λ r. ⌜ Enters (now (arcs .entry)) (now (weights .entry)) (now (nodes .entry)) (now (labels .entry)) (now (labels .exit)) (length (now (heap .entry))) run v limit r ⌝ }
 {
     let mut run = run;
     let mut place = nodes[4 * v as usize + 2];
@@ -502,7 +495,8 @@ fn all_nodes(
     search: WitnessSearch,
     limit: u32,
 ) -> u64
-    requires { ⌜ ((w : World) × (w .n ≡ n) × (n ≤ 1048576) × Resting w (now arcs) (now weights) (now nodes) (now labels) (length (now heap)) (search .base)) ⌝ }
+    requires { ⌜ ((l : Links) × Ground n l (now arcs) (now weights) (now nodes) (now labels) (length (now heap)) (search .base)) ⌝ }
+    ensures { λ r. ⌜ ((l : Links) → Ground n l (now (arcs .entry)) (now (weights .entry)) (now (nodes .entry)) (now (labels .entry)) (length (now (heap .entry))) (search .base) → r ≡ all-pairs (graph-of l) limit n) ⌝ }
 {
     let mut run = Run { search, total: 0 };
     let mut v = 0;
@@ -527,10 +521,10 @@ pub extern "C" fn all_pairs(
     nodes: &mut [u32],
     labels: &mut [u64],
     heap: &mut [u64],
-) -> u64 {
-    if 1048576 < n {
-        return 0;
-    }
+) -> u64
+    ensures { λ r. ⌜ Sums n (links (now (tails .entry)) (now (heads .entry)) (now («link_weights» .entry))) limit
+        (length (now (arcs .entry))) (length (now (weights .entry))) (length (now (nodes .entry))) (length (now (labels .entry))) (length (now (heap .entry))) r ⌝ }
+{
     let begun = begin(
         n,
         tails,

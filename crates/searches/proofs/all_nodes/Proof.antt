@@ -1,11 +1,11 @@
--- The invariant: some graph stands, and the next search may begin.
+-- The invariant: what is left of the nodes and what was done come to the whole, and the next search may begin.
 use mathlib.Core.Path.{_≡_, refl, _∙_}
 use Prim.Native.Nat.{_-_, _≤_}
 use native.Mathlib.Omega.{arith}
 use lib.ListN.{length}
-use Rattle.search.specs.Searching.{World}
-use Rattle.searches.specs.Rounds.{Resting}
-use Rattle.searches.proofs.Rounds.{still}
+use Rattle.rules.specs.Columns.{Links}
+use Rattle.searches.specs.Rounds.{Ground}
+use Rattle.searches.proofs.Pairs.{NodesLeft, nodes-all, nodes-entering, nodes-on, nodes-done}
 use borrow.Author.Needs.{needs}
 use Rattle.searches.proofs.all_nodes.Statement.{statement}
 use Rattle.searches.proofs.all_nodes.Tie as tie
@@ -15,19 +15,19 @@ use Rattle.searches.proofs.all_nodes.Lts as lts
 abbrev Inv-loop : tie.InvT-loop
 Inv-loop arcs weights nodes labels₀ heap₀ n limit run₀ v₀ labels heap run v =
     (v ≤ n) × (length labels ≡ length labels₀) × (length heap ≡ length heap₀) ×
-    ((w : World) × (w .n ≡ n) × Resting w arcs weights nodes labels (length heap) (run .search .base))
+    ((l : Links) (g : Ground n l arcs weights nodes labels₀ (length heap₀) (run₀ .search .base)) → NodesLeft g labels (length heap) limit run v)
 
 abbrev μ-loop : tie.MeasureT-loop
 μ-loop arcs weights nodes labels₀ heap₀ n limit run₀ v₀ labels heap run v = n - v
 
 loop-holds : tie.Need-loop-holds Inv-loop μ-loop
-loop-holds c = let p = c .before .before .before .before .before .pre in (omega arith, refl, refl, (p .0, p .1, p .3))
+loop-holds c = (omega arith, refl, refl, λ l g. nodes-all g _ _ refl refl)
 
 cast-in-arcs : tie.Need-cast-in-arcs Inv-loop μ-loop
-cast-in-arcs c = omega (arith, c .before .before .before .before .before .before .before .before .before .pre .2, c .before .before .loop-test .taken)
+cast-in-arcs c = omega (arith, c .before .before .before .before .before .before .before .before .before .pre .1 .few-nodes, c .before .before .loop-test .taken)
 
 in-arcs-requires : tie.Need-in-arcs-requires Inv-loop μ-loop
-in-arcs-requires c κs = let y = c .before .before .before .loop .inv .3 in (y .0, y .2, omega (arith, y .1, c .before .before .loop-test .taken))
+in-arcs-requires c κs = let p = c .before .before .before .before .before .before .before .before .before .pre in (_, nodes-entering (p .1) (c .before .before .before .loop .inv .3 (p .0) (p .1)) (c .before .before .loop-test .taken))
 
 add-v : tie.Need-add-v Inv-loop μ-loop
 add-v c = search needs
@@ -36,17 +36,12 @@ loop-less : tie.Need-loop-less Inv-loop μ-loop
 loop-less c = omega (arith, c .before .before .before .before .before .before .before .loop-test .taken)
 
 loop-again : tie.Need-loop-again Inv-loop μ-loop
-loop-again c =
-    let y = c .before .before .before .before .before .before .before .before .loop .inv .3 in (
-      omega (arith, c .before .before .before .before .before .before .before .loop-test .taken),
-      c .before .before .before .before .in-arcs .kept .1 .1 .1 .0 ∙ c .before .before .before .before .before .before .before .before .loop .inv .1,
-      c .before .before .before .before .in-arcs .kept .1 .1 .1 .1 .0 ∙ c .before .before .before .before .before .before .before .before .loop .inv .2,
-      (
-        y .0,
-        y .1,
-        still (y .2) (c .before .before .before .before .in-arcs .kept .1 .1 .1 .1 .0) (c .before .before .before .before .in-arcs .ensures (y .0) (y .2) (omega (arith, y .1, c .before .before .before .before .before .before .before .loop-test .taken))),
-      ),
-    )
+loop-again c = (
+  omega (arith, c .before .before .before .before .before .before .before .loop-test .taken),
+  c .before .before .before .before .in-arcs .kept .1 .1 .1 .0 ∙ c .before .before .before .before .before .before .before .before .loop .inv .1,
+  c .before .before .before .before .in-arcs .kept .1 .1 .1 .1 .0 ∙ c .before .before .before .before .before .before .before .before .loop .inv .2,
+  λ l g. nodes-on g (c .before .before .before .before .before .before .before .before .loop .inv .3 l g) (c .before .before .before .before .before .before .before .loop-test .taken) (c .before .before .before .before .in-arcs .result) (c .before .before .before .before .in-arcs .kept .1 .1 .1 .1 .0) (c .before .before .before .before .in-arcs .ensures),
+)
 
 same-length : tie.Need-same-length Inv-loop μ-loop
 same-length c = c .before .loop .inv .1
@@ -55,7 +50,7 @@ same-length-2 : tie.Need-same-length-2 Inv-loop μ-loop
 same-length-2 c = c .before .loop .inv .2
 
 returns : tie.Need-returns Inv-loop μ-loop
-returns c = search needs
+returns c = λ l g. nodes-done g (c .before .loop .inv .3 l g) (c .loop-test .left)
 
 pub all-nodes-spec : {M : Type 1} → statement M
 all-nodes-spec =

@@ -1,16 +1,12 @@
 -- What was begun is ground for all nodes.
-use native.Mathlib.Omega.{arith}
-use borrow.Author.Tests.{not-false}
 use mathlib.Core.Path.{refl}
-use Rattle.searches.proofs.Rounds.{graph-there}
+use borrow.Author.Tests.{not-true, not-false}
 use borrow.Author.Needs.{needs}
+use Rattle.searches.proofs.Deciding.{denied}
 use Rattle.searches.proofs.all_pairs.Statement.{statement}
 use Rattle.searches.proofs.all_pairs.Tie as tie
 use Rattle.searches.proofs.all_pairs.Reads as reads
 use Rattle.searches.proofs.all_pairs.Lts as lts
-
-returns : tie.Need-returns
-returns c = search needs
 
 begin-requires : tie.Need-begin-requires
 begin-requires c κs = search needs
@@ -27,11 +23,15 @@ same-length-3 c = search needs
 same-length-4 : tie.Need-same-length-4
 same-length-4 c = search needs
 
-returns-2 : tie.Need-returns-2
-returns-2 c = search needs
+returns : tie.Need-returns
+returns c =
+    record {
+      fit = λ p. absurd (denied (c .before .before .before .before .before .before .before .before .before .before .begin .ensures .decides) (not-true _ (c .if1 .taken)) p);
+      unfit = λ _. refl;
+    }
 
 all-nodes-requires : tie.Need-all-nodes-requires
-all-nodes-requires c κs = let ground = c .before .before .before .before .before .before .before .before .before .before .before .before .before .before .before .before .begin .ensures .ground (not-false _ (c .before .before .before .before .before .before .if2 .left)) in (graph-there ground, refl, omega (arith, c .before .before .before .before .before .before .before .before .before .before .before .before .before .before .before .before .before .before .before .before .before .if1 .left), ground .resting)
+all-nodes-requires c κs = (_, c .before .before .before .before .before .before .before .before .before .before .before .before .before .before .before .before .begin .ensures .ground (not-false _ (c .before .before .before .before .before .before .if1 .left)))
 
 same-length-5 : tie.Need-same-length-5
 same-length-5 c = search needs
@@ -48,24 +48,29 @@ same-length-8 c = search needs
 same-length-9 : tie.Need-same-length-9
 same-length-9 c = search needs
 
-returns-3 : tie.Need-returns-3
-returns-3 c = search needs
+returns-2 : tie.Need-returns-2
+returns-2 c =
+    let begun = c .before .before .before .before .before .before .before .before .before .before .before .before .before .before .before .before .before .before .before .before .before .begin .ensures in
+    let ok = not-false _ (c .before .before .before .before .before .before .before .before .before .before .before .if1 .left) in
+    record {
+      fit = λ _. c .before .before .before .before .all-nodes .ensures _ (begun .ground ok);
+      unfit = λ f. absurd (f (begun .decides .0 ok));
+    }
 
 pub all-pairs-spec : {M : Type 1} → statement M
 all-pairs-spec =
     tie.close
     (tie.spec
-    returns
     begin-requires
     same-length
     same-length-2
     same-length-3
     same-length-4
-    returns-2
+    returns
     all-nodes-requires
     same-length-5
     same-length-6
     same-length-7
     same-length-8
     same-length-9
-    returns-3)
+    returns-2)

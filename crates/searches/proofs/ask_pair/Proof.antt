@@ -1,22 +1,22 @@
--- What the search promises for each of its states.
-use mathlib.Core.Path.{refl}
+-- What is asked of the search, where anything is.
 use native.Mathlib.Omega.{arith}
 use borrow.Author.Needs.{needs}
+use Rattle.searches.proofs.Pairs.{unchanged, same-ends, too-heavy, pair-asked}
 use Rattle.searches.proofs.ask_pair.Statement.{statement}
 use Rattle.searches.proofs.ask_pair.Tie as tie
 use Rattle.searches.proofs.ask_pair.Reads as reads
 use Rattle.searches.proofs.ask_pair.Lts as lts
 
 returns : tie.Need-returns
-returns c = λ w g h. record { going = g; base = refl }
+returns c = λ w s p. unchanged (p .ready) (same-ends _ _ _ _ _ _ _ (c .if1 .taken))
 
 returns-2 : tie.Need-returns-2
-returns-2 c = λ w g h. record { going = g; base = refl }
+returns-2 c = λ w s p. unchanged (p .ready) (too-heavy _ _ _ _ _ _ _ (c .before .if1 .left) (c .if2 .taken))
 
 find-max-weight-requires : tie.Need-find-max-weight-requires
 find-max-weight-requires c κs =
     let p = c .before .before .before .before .before .before .before .before .before .before .pre in
-    (p .0, p .1 .search, record { ready = p .1 .ready; inside = p .2; small = omega (arith, c .before .before .before .if2 .left) })
+    (p .0, p .1, record { ready = p .2 .ready; inside = p .2 .inside; small = omega (arith, c .before .before .before .if2 .left) })
 
 count-in-requires : tie.Need-count-in-requires
 count-in-requires c κs = search needs
@@ -29,9 +29,8 @@ same-length-2 c = search needs
 
 returns-3 : tie.Need-returns-3
 returns-3 c =
-    λ w g h.
-    let a = c .before .before .before .before .before .before .find-max-weight .ensures w (g .search) (record { ready = g .ready; inside = h; small = omega (arith, c .before .before .before .before .before .before .before .before .before .before .if2 .left) }) in
-    record { going = record { search = _; ready = a .ready }; base = a .base }
+    let asked = c .before .before .before .before .before .before .find-max-weight in
+    λ w s p. pair-asked (asked .result) (c .before .before .before .before .before .before .before .before .before .before .before .if1 .left) (c .before .before .before .before .before .before .before .before .before .before .if2 .left) (asked .ensures w s (record { ready = p .ready; inside = p .inside; small = c .before .before .before .before .before .before .before .before .before .before .if2 .left })) (c .count-in .ensures)
 
 pub ask-pair-spec : {M : Type 1} → statement M
 ask-pair-spec =

@@ -96,6 +96,8 @@ returns-3 c =
                   heap-room = fits .enough .heap-room;
                 };
             fresh = c .before .before .new .ensures .0;
+            few-nodes = fits .enough .few-nodes;
+            few-places = fits .enough .few-places;
           };
     }
 
