@@ -1,7 +1,7 @@
 -- Answers and counts are written one after the other.
 use mathlib.Core.Path.{_≡_, refl, sym, _∙_, ap}
 use mathlib.Core.List.{List, [], _∷_, _++_, map, append-nil, append-assoc, map-append}
-use Prim.Native.Nat.{ℕ, zero, suc, _+_, _≤_, _<_}
+use Prim.Native.Nat.{ℕ, suc, _+_, _≤_, _<_}
 use native.Mathlib.Numerals.{add-one}
 use native.Mathlib.Omega.{arith}
 use lib.ListN.{length, getD, set, drop, length-append, length-map, drop-of-length-le}
@@ -13,9 +13,9 @@ use Rattle.search.specs.declared.witness_search.WitnessSearch.{WitnessSearch}
 use Rattle.search.specs.declared.witness_search.Found.{Found as Answer}
 use Rattle.search.specs.Searching.{World, Lent, Ready}
 use Rattle.search.specs.Promises.{Asked, Answered}
-use Rattle.searches.specs.Asks.{ask-each, weights-of, counts-of}
+use Rattle.searches.specs.Asks.{ask-each}
 use Rattle.searches.specs.Fits.{Askable}
-use Rattle.searches.specs.Rounds.{Written, Asking}
+use Rattle.searches.specs.Answers.{Written}
 
 pub none-written : {answers counts : List ℕ} → Written answers counts answers counts []
 unfolding over

@@ -11,7 +11,7 @@ use Rattle.rules.specs.Lists.{range, count-from}
 use Rattle.rules.specs.Columns.{Links}
 use Rattle.rules.specs.Graph.{Arc, outs, ins}
 use Rattle.rules.specs.Search.{Search, init, find-max-weight}
-use Rattle.graph.specs.Memory.{memory, arc-at}
+use Rattle.graph.specs.Memory.{memory}
 use Rattle.graph.specs.Walks.{column}
 use Rattle.graph.proofs.Reading.{reads-end, tail-at}
 use Rattle.search.specs.declared.witness_search.WitnessSearch.{WitnessSearch}
@@ -21,6 +21,7 @@ use Rattle.search.specs.Promises.{Answered, Starts}
 use Rattle.search.proofs.Laws.{ready-stamped}
 use Rattle.searches.specs.declared.Run.{Run}
 use Rattle.searches.specs.Asks.{graph-of, Tally, tally, add-in, ask-pair, out-pair, from-tail, in-pairs, node-pairs, all-pairs}
+use Rattle.searches.specs.Fits.{mostLinks}
 use Rattle.searches.specs.Rounds.{Resting, Ground, Pairing, Went, Pairs, Leaving, Leaves, Rested, Coming, Comes, Entering, Enters}
 use Rattle.searches.proofs.Rounds.{still, starting, started, graph-there}
 use Rattle.searches.proofs.Walks.{Left, left-outs, left-ins, few-ins, left-fit, left-rest}
@@ -196,7 +197,7 @@ range-end v n h = rw none
 pub record NodesLeft {n : ℕ} {l : Links} {arcs weights nodes labels₀ : List ℕ} {heap₀ base₀ : ℕ} (g : Ground n l arcs weights nodes labels₀ heap₀ base₀)
     (labels : List ℕ) (heap limit : ℕ) (x : Run) (v : ℕ) : Type 0 where
   pub resting : Resting (graph-there g) arcs weights nodes labels heap (x .search .base)
-  pub stamps : x .search .base ≤ 33554432 * v
+  pub stamps : x .search .base ≤ 2 * mostLinks * v
   pub same : foldl (node-pairs (graph-of l) limit) (x .total) (range v n) ≡ all-pairs (graph-of l) limit n
 
 module _ {n : ℕ} {l : Links} {arcs weights nodes labels₀ : List ℕ} {heap₀ base₀ : ℕ} (g : Ground n l arcs weights nodes labels₀ heap₀ base₀) where

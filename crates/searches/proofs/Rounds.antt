@@ -1,29 +1,22 @@
--- A walk along a node's list, for its ends and weights, and a run that goes on.
+-- From one search to the next, and what is promised where there is none.
 use mathlib.Core.Bool.{false, false≢true}
-use mathlib.Core.Path.{_≡_, refl, sym, _∙_, ap}
-use mathlib.Core.List.{List, [], _∷_, map, List·Memᴰ·head, List·Memᴰ·tail}
-use Prim.Native.Nat.{ℕ, _+_, _*_, _≤_, _<_}
-use native.Mathlib.Nat.{add-zero}
+use mathlib.Core.Path.{_≡_, sym, _∙_}
+use mathlib.Core.List.{List}
+use Prim.Native.Nat.{ℕ, _<_}
 use native.Mathlib.Omega.{arith}
-use lib.ListN.{length, getD}
-use Rattle.rules.specs.Numbers.{invalid, maxWeight}
+use lib.ListN.{length}
 use Rattle.rules.specs.Columns.{Links}
-use Rattle.rules.specs.Lists.{In, keep}
-use Rattle.rules.proofs.Members.{in-keep, map-in}
-use Rattle.graph.specs.Memory.{memory, at, first, arc-at, ends-at}
-use Rattle.graph.specs.Walks.{column, Walk, steps}
-use Rattle.graph.proofs.Reading.{walk-on, walk-room, walk-nearer, own-walk}
-use Rattle.graph.proofs.Places.{place-below}
 use Rattle.rules.specs.Search.{init}
 use Rattle.search.specs.declared.witness_search.WitnessSearch.{WitnessSearch}
 use Rattle.search.specs.Labels.{Stamped}
-use Rattle.search.specs.Searching.{World, Standing, lent, Ready}
+use Rattle.search.specs.Searching.{World, lent, Ready}
 use Rattle.search.specs.Promises.{Starting, Started}
 use Rattle.search.proofs.Laws.{started-ready}
 use Rattle.searches.specs.declared.Begun.{Begun}
 use Rattle.searches.specs.Asks.{graph-of}
-use Rattle.searches.specs.Fits.{Askable, Fitting}
-use Rattle.searches.specs.Rounds.{Resting, Startable, AskingFrom, world, Ground, Begins, Searchable, Searches}
+use Rattle.searches.specs.Fits.{Askable, Fitting, Searchable}
+use Rattle.searches.specs.Answers.{Searches}
+use Rattle.searches.specs.Rounds.{Resting, Startable, AskingFrom, world, Ground, Begins}
 use Rattle.searches.proofs.Deciding.{refuses, no}
 use Rattle.searches.proofs.Answers.{none-written}
 

@@ -1,12 +1,12 @@
 -- A walk along a node's list: its arcs are between nodes and light.
 use mathlib.Core.Path.{_≡_, refl, ap}
-use mathlib.Core.List.{List, _∷_, map, List·Memᴰ·head, List·Memᴰ·tail}
+use mathlib.Core.List.{List, _∷_, List·Memᴰ·head, List·Memᴰ·tail}
 use Prim.Native.Nat.{ℕ, _+_, _*_, _≤_, _<_}
 use native.Mathlib.Nat.{add-zero}
 use native.Mathlib.Omega.{arith}
 use lib.ListN.{length, getD, length-map}
 use Rattle.rules.specs.Numbers.{invalid, maxWeight}
-use Rattle.rules.specs.Lists.{In, keep}
+use Rattle.rules.specs.Lists.{In}
 use Rattle.rules.specs.Graph.{Arc, leaves, enters, outs, ins}
 use Rattle.rules.proofs.Members.{in-keep, in-map}
 use Rattle.graph.specs.Memory.{memory, at, first, arc-at}

@@ -7,10 +7,16 @@ use Rattle.rules.specs.Numbers.{maxWeight}
 use Rattle.rules.specs.Columns.{Links}
 use Rattle.graph.specs.Promises.{Between}
 
+abbrev pub mostNodes : ℕ
+mostNodes = 1048576
+
+abbrev pub mostLinks : ℕ
+mostLinks = 16777216
+
 -- lengths that are enough for n nodes and a pool
 pub record Enough (n pool arcs weights nodes labels heap : ℕ) : Type 0 where
-  pub few-nodes : n ≤ 1048576
-  pub few-places : pool ≤ 16777216
+  pub few-nodes : n ≤ mostNodes
+  pub few-places : pool ≤ mostLinks
   pub arcs-room : 6 * pool ≤ arcs
   pub weights-room : pool ≤ weights
   pub nodes-room : 4 * n ≤ nodes
@@ -29,3 +35,9 @@ pub record Askable (n : ℕ) (targets sums : List ℕ) (answers counts : ℕ) : 
 pub record Fitting (n : ℕ) (l : Links) (arcs weights nodes labels heap : ℕ) : Type 0 where
   pub between : Between n (l .tails) (l .heads) (l .weights)
   pub enough : Enough n (length (l .tails)) arcs weights nodes labels heap
+
+-- the same, with a start and targets
+pub record Searchable (n start : ℕ) (l : Links) (targets sums : List ℕ) (answers counts arcs weights nodes labels heap : ℕ) : Type 0 where
+  pub inside : start < n
+  pub asks : Askable n targets sums answers counts
+  pub fitting : Fitting n l arcs weights nodes labels heap

@@ -2,5 +2,7 @@
 pub mod Asks
 -- What the tests of what is handed in decide.
 pub mod Fits
--- What the functions ask and promise.
+-- What the exported functions answer.
+pub mod Answers
+-- What the others ask and promise.
 pub mod Rounds

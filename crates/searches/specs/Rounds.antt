@@ -1,14 +1,14 @@
--- What the functions ask and promise: the graph and the search are no values of the code, as in crates/search.
-use mathlib.Core.Bool.{Bool, true, false}
-use mathlib.Core.List.{List, [], foldl}
+-- What the functions ask and promise. As in crates/search, graph and search are no values of the code: a function asks that there are
+-- some, and promises its answer for each of them.
+use mathlib.Core.Bool.{true}
+use mathlib.Core.List.{List, foldl}
 use mathlib.Core.Path.{_≡_}
 use Prim.Native.Nat.{ℕ, _+_, _*_, _^_, _<_, _≤_}
 use lib.ListN.{length}
 use Rattle.rules.specs.Numbers.{maxWeight}
-use Rattle.rules.specs.Lists.{over}
 use Rattle.rules.specs.Columns.{Links}
 use Rattle.rules.specs.Graph.{Arc, outs, ins}
-use Rattle.rules.specs.Search.{Search, Found, init}
+use Rattle.rules.specs.Search.{Search, init}
 use Rattle.rules.proofs.Decides.{Decides}
 use Rattle.graph.specs.declared.preparation_graph.Pool.{Pool}
 use Rattle.search.specs.declared.witness_search.WitnessSearch.{WitnessSearch}
@@ -17,13 +17,9 @@ use Rattle.search.specs.Searching.{World, Standing, Lent, Ready}
 use Rattle.search.specs.Promises.{Each}
 use Rattle.searches.specs.declared.Begun.{Begun}
 use Rattle.searches.specs.declared.Run.{Run}
-use Rattle.searches.specs.Asks.{graph-of, ask-each, weights-of, counts-of, Tally, tally, ask-pair, out-pair, from-tail, node-pairs, all-pairs}
-use Rattle.searches.specs.Fits.{Askable, Fitting}
-
--- what was found stands at the front of the answers and counts, whose other places are as they were
-pub record Written (answers counts answers′ counts′ : List ℕ) (found : List Found) : Type 0 where
-  pub answers-are : answers′ ≡ over answers (weights-of found)
-  pub counts-are : counts′ ≡ over counts (counts-of found)
+use Rattle.searches.specs.Asks.{graph-of, ask-each, Tally, tally, ask-pair, out-pair, from-tail, node-pairs, all-pairs}
+use Rattle.searches.specs.Fits.{mostNodes, mostLinks, Askable, Fitting}
+use Rattle.searches.specs.Answers.{Written}
 
 -- a search is in the midst of its targets, and these can be asked for
 pub record Asking (m : Lent) (x : WitnessSearch) (targets sums : List ℕ) (answers counts : ℕ) (w : World) (s : Search) : Type 0 where
@@ -59,31 +55,23 @@ AsksFrom arcs weights nodes labels heap base start avoid limit targets sums answ
 abbrev pub world : ℕ → ℕ → Pool → List Arc → World
 world n pool state g = record { n = n; pool = pool; state = state; graph = g }
 
--- the slices hold the graph of the links, and no label is of a search yet
+-- the slices hold the graph of the links, no label is of a search yet, and there are stamps for every search that the links can ask for
 pub record Ground (n : ℕ) (l : Links) (arcs weights nodes labels : List ℕ) (heap base : ℕ) : Type 0 where
   pub state : Pool
   pub resting : Resting (world n (length (l .tails)) state (graph-of l)) arcs weights nodes labels heap base
   pub fresh : base ≡ 0
-  pub few-nodes : n ≤ 1048576
-  pub few-places : length (l .tails) ≤ 16777216
+  pub few-nodes : n ≤ mostNodes
+  pub few-places : length (l .tails) ≤ mostLinks
+
+-- what `all_nodes` adds up
+abbrev pub Adds : ℕ → (arcs weights nodes labels : List ℕ) (heap base limit r : ℕ) → Type 0
+Adds n arcs weights nodes labels heap base limit r =
+    (l : Links) → Ground n l arcs weights nodes labels heap base → r ≡ all-pairs (graph-of l) limit n
 
 -- begun exactly where all fits
 pub record Begins (n : ℕ) (l : Links) (arcs weights nodes labels arcs′ weights′ nodes′ labels′ : List ℕ) (heap : ℕ) (r : Begun) : Type 0 where
   pub decides : Decides (r .ok) (Fitting n l (length arcs) (length weights) (length nodes) (length labels) heap)
   pub ground : r .ok ≡ true → Ground n l arcs′ weights′ nodes′ labels′ heap (r .search .base)
-
--- what is handed to `witness_searches` fits
-pub record Searchable (n start : ℕ) (l : Links) (targets sums : List ℕ) (answers counts arcs weights nodes labels heap : ℕ) : Type 0 where
-  pub inside : start < n
-  pub asks : Askable n targets sums answers counts
-  pub fitting : Fitting n l arcs weights nodes labels heap
-
--- its answer, for slices of these lengths
-pub record Searches (n : ℕ) (l : Links) (start avoid limit : ℕ) (targets sums answers counts answers′ counts′ : List ℕ) (arcs weights nodes labels heap : ℕ)
-    (r : Bool) : Type 0 where
-  pub decides : Decides r (Searchable n start l targets sums (length answers) (length counts) arcs weights nodes labels heap)
-  pub asked : r ≡ true → Written answers counts answers′ counts′ (ask-each (graph-of l) avoid limit targets sums (init start))
-  pub refused : r ≡ false → Written answers counts answers′ counts′ []
 
 -- a pair is to be asked for
 pub record Pairing (m : Lent) (x : WitnessSearch) (head : ℕ) (w : World) (s : Search) : Type 0 where
@@ -139,8 +127,3 @@ abbrev pub Enters : (arcs weights nodes labels labels′ : List ℕ) (heap : ℕ
 Enters arcs weights nodes labels labels′ heap x v limit r =
     (w : World) → Entering w arcs weights nodes labels heap (x .search .base) v →
     Rested (w .n) labels′ (x .search .base) (length (ins (w .graph) v)) (node-pairs (w .graph) limit (x .total) v) r
-
--- what `all_pairs` answers, for slices of these lengths
-pub record Sums (n : ℕ) (l : Links) (limit arcs weights nodes labels heap r : ℕ) : Type 0 where
-  pub fit : Fitting n l arcs weights nodes labels heap → r ≡ all-pairs (graph-of l) limit n
-  pub unfit : (Fitting n l arcs weights nodes labels heap → ⊥) → r ≡ 0

@@ -10,8 +10,9 @@ ghost use Rattle.graph.specs.Promises.{Between};
 ghost use Rattle.search.specs.Searching.{World, lent};
 ghost use Rattle.search.specs.Promises.{Some};
 ghost use Rattle.searches.specs.Fits.{Enough, Askable, Fitting};
-ghost use Rattle.searches.specs.Asks.{graph-of, add-in, all-pairs};
-ghost use Rattle.searches.specs.Rounds.{Asking, AsksAll, AskingFrom, AsksFrom, Ground, Begins, Searches, Pairing, Pairs, Leaving, Leaves, Coming, Comes, Entering, Enters, Sums};
+ghost use Rattle.searches.specs.Asks.{add-in};
+ghost use Rattle.searches.specs.Answers.{Searches, Sums};
+ghost use Rattle.searches.specs.Rounds.{Asking, AsksAll, AskingFrom, AsksFrom, Ground, Adds, Begins, Pairing, Pairs, Leaving, Leaves, Coming, Comes, Entering, Enters};
 use graph::preparation_graph::Added;
 use rules::INVALID;
 use rules::MAX_WEIGHT;
@@ -255,6 +256,7 @@ fn begin(
         heads,
         link_weights,
     );
+    // it never is full: there is a place for each link
     let Added::Arc(_) = added else {
         return refused();
     };
@@ -485,6 +487,7 @@ fn in_arcs(
     run
 }
 
+// Each in-arc takes two stamps, so n nodes of at most 2^24 links take fewer than 2^46.
 fn all_nodes(
     arcs: &[u32],
     weights: &[u64],
@@ -496,7 +499,7 @@ fn all_nodes(
     limit: u32,
 ) -> u64
     requires { ⌜ ((l : Links) × Ground n l (now arcs) (now weights) (now nodes) (now labels) (length (now heap)) (search .base)) ⌝ }
-    ensures { λ r. ⌜ ((l : Links) → Ground n l (now (arcs .entry)) (now (weights .entry)) (now (nodes .entry)) (now (labels .entry)) (length (now (heap .entry))) (search .base) → r ≡ all-pairs (graph-of l) limit n) ⌝ }
+    ensures { λ r. ⌜ Adds n (now (arcs .entry)) (now (weights .entry)) (now (nodes .entry)) (now (labels .entry)) (length (now (heap .entry))) (search .base) limit r ⌝ }
 {
     let mut run = Run { search, total: 0 };
     let mut v = 0;

@@ -9,8 +9,6 @@ use Rattle.searches.proofs.Pairs.{NodesLeft, nodes-all, nodes-entering,
 use borrow.Author.Needs.{needs}
 use Rattle.searches.proofs.all_nodes.Statement.{statement}
 use Rattle.searches.proofs.all_nodes.Tie as tie
-use Rattle.searches.proofs.all_nodes.Reads as reads
-use Rattle.searches.proofs.all_nodes.Lts as lts
 
 abbrev Inv-loop : tie.InvT-loop
 Inv-loop arcs weights nodes labels₀ heap₀ n limit run₀ v₀ labels heap run v =

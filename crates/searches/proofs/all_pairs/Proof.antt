@@ -5,8 +5,6 @@ use borrow.Author.Needs.{needs}
 use Rattle.searches.proofs.Deciding.{denied}
 use Rattle.searches.proofs.all_pairs.Statement.{statement}
 use Rattle.searches.proofs.all_pairs.Tie as tie
-use Rattle.searches.proofs.all_pairs.Reads as reads
-use Rattle.searches.proofs.all_pairs.Lts as lts
 
 begin-requires : tie.Need-begin-requires
 begin-requires c κs = search needs

@@ -1,6 +1,6 @@
 -- The invariant: of every graph and search that stood, what was asked so far is written, and with the rest it comes to the whole.
-use mathlib.Core.Path.{_≡_, refl, sym, _∙_, ap}
-use Prim.Native.Nat.{ℕ, _-_, _≤_}
+use mathlib.Core.Path.{_≡_, refl}
+use Prim.Native.Nat.{_-_, _≤_}
 use native.Mathlib.Omega.{arith}
 use lib.ListN.{length}
 use Rattle.search.specs.Searching.{lent}
@@ -10,9 +10,6 @@ use Rattle.searches.proofs.Answers.{SoFar, none-so-far, next-asked, one
 use borrow.Author.Needs.{needs}
 use Rattle.searches.proofs.ask_all.Statement.{statement}
 use Rattle.searches.proofs.ask_all.Tie as tie
-use Rattle.searches.proofs.ask_all.Reads as reads
-use Rattle.searches.proofs.ask_all.Lts as lts
-use Rattle.search.proofs.witness_search.find_max_weight.Reads as find-max-weight-reads
 
 abbrev Inv-loop : tie.InvT-loop
 Inv-loop arcs weights nodes labels₀ heap₀ limit targets sums answers₀ counts₀ search₀ k₀ labels heap answers counts search k =

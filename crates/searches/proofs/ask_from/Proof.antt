@@ -1,13 +1,8 @@
 -- The ground is what a search starts on, and the start is what its targets are asked of.
-use native.Mathlib.Omega.{arith}
 use borrow.Author.Needs.{needs}
 use Rattle.searches.proofs.Rounds.{starting, started}
 use Rattle.searches.proofs.ask_from.Statement.{statement}
 use Rattle.searches.proofs.ask_from.Tie as tie
-use Rattle.searches.proofs.ask_from.Reads as reads
-use Rattle.searches.proofs.ask_from.Lts as lts
-use Rattle.search.proofs.witness_search.init.Reads as init-reads
-use Rattle.searches.proofs.ask_all.Reads as ask-all-reads
 
 init-requires : tie.Need-init-requires
 init-requires c κs = let p = c .before .before .before .before .before .before .before .before .before .before .before .pre in (p .0 .n, starting (p .1 .startable))

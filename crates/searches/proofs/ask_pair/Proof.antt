@@ -4,8 +4,6 @@ use borrow.Author.Needs.{needs}
 use Rattle.searches.proofs.Pairs.{unchanged, same-ends, too-heavy, pair-asked}
 use Rattle.searches.proofs.ask_pair.Statement.{statement}
 use Rattle.searches.proofs.ask_pair.Tie as tie
-use Rattle.searches.proofs.ask_pair.Reads as reads
-use Rattle.searches.proofs.ask_pair.Lts as lts
 
 returns : tie.Need-returns
 returns c = λ w s p. unchanged (p .ready) (same-ends _ _ _ _ _ _ _ (c .if1 .taken))

@@ -1,6 +1,6 @@
 -- Every target and sum that was passed can be asked for; one that cannot is a ground to refuse.
-use mathlib.Core.Path.{_≡_, refl, sym, _∙_}
-use Prim.Native.Nat.{ℕ, _-_, _+_, _*_, _≤_, _<_}
+use mathlib.Core.Path.{_≡_, refl}
+use Prim.Native.Nat.{ℕ, _-_, _≤_, _<_}
 use native.Mathlib.Omega.{arith}
 use borrow.Author.Count.{below-more}
 use lib.ListN.{length, getD}
@@ -9,8 +9,6 @@ use Rattle.searches.proofs.Deciding.{yes, no}
 use borrow.Author.Needs.{needs}
 use Rattle.searches.proofs.asks_fit.Statement.{statement}
 use Rattle.searches.proofs.asks_fit.Tie as tie
-use Rattle.searches.proofs.asks_fit.Reads as reads
-use Rattle.searches.proofs.asks_fit.Lts as lts
 
 abbrev Inv-loop : tie.InvT-loop
 Inv-loop n targets sums answers counts asks k₀ k =

@@ -7,12 +7,6 @@ use Rattle.searches.proofs.Rounds.{not-begun}
 use borrow.Author.Needs.{needs}
 use Rattle.searches.proofs.begin.Statement.{statement}
 use Rattle.searches.proofs.begin.Tie as tie
-use Rattle.searches.proofs.begin.Reads as reads
-use Rattle.searches.proofs.begin.Lts as lts
-use Rattle.graph.proofs.preparation_graph.from_input_graph.Reads as from-input-graph-reads
-use Rattle.search.proofs.witness_search.new.Reads as new-reads
-use Rattle.searches.proofs.given_fits.Reads as given-fits-reads
-use Rattle.searches.proofs.refused.Reads as refused-reads
 
 given-fits-requires : tie.Need-given-fits-requires
 given-fits-requires c κs = search needs

@@ -4,8 +4,6 @@ use Rattle.searches.proofs.Rounds.{starting}
 use Rattle.searches.proofs.Pairs.{sets-out, came}
 use Rattle.searches.proofs.from_tail.Statement.{statement}
 use Rattle.searches.proofs.from_tail.Tie as tie
-use Rattle.searches.proofs.from_tail.Reads as reads
-use Rattle.searches.proofs.from_tail.Lts as lts
 
 init-requires : tie.Need-init-requires
 init-requires c κs = let p = c .before .before .before .before .before .before .before .before .pre in (p .0 .n, starting (p .1 .startable))

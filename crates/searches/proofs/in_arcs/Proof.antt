@@ -10,8 +10,6 @@ use Rattle.searches.proofs.Walks.{left-room, left-nearer}
 use Rattle.searches.proofs.Pairs.{InsLeft, ins-all, ins-coming, ins-on, ins-done}
 use Rattle.searches.proofs.in_arcs.Statement.{statement}
 use Rattle.searches.proofs.in_arcs.Tie as tie
-use Rattle.searches.proofs.in_arcs.Reads as reads
-use Rattle.searches.proofs.in_arcs.Lts as lts
 
 abbrev Inv-loop : tie.InvT-loop
 Inv-loop arcs weights nodes labels₀ heap₀ v limit run₀ place₀ labels heap run place =

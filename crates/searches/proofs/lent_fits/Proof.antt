@@ -1,15 +1,11 @@
 -- Each test is of one fact.
-use mathlib.Core.Path.{_≡_, refl, sym, _∙_}
-use Prim.Native.Nat.{ℕ, _-_, _+_, _*_, _≤_, _<_}
+use Prim.Native.Nat.{_-_}
 use native.Mathlib.Omega.{arith}
 use borrow.Author.Tests.{leb-true, le-leb}
-use lib.ListN.{length, getD}
 use borrow.Author.Needs.{needs}
 use Rattle.searches.proofs.Deciding.{no}
 use Rattle.searches.proofs.lent_fits.Statement.{statement}
 use Rattle.searches.proofs.lent_fits.Tie as tie
-use Rattle.searches.proofs.lent_fits.Reads as reads
-use Rattle.searches.proofs.lent_fits.Lts as lts
 
 returns : tie.Need-returns
 returns c = no (λ p. omega (arith, p .few-nodes))

@@ -1,6 +1,6 @@
 -- Every link that was passed joins nodes below n; one that does not is a ground to refuse.
-use mathlib.Core.Path.{_≡_, refl, sym, _∙_}
-use Prim.Native.Nat.{ℕ, _-_, _+_, _*_, _≤_, _<_}
+use mathlib.Core.Path.{_≡_, refl}
+use Prim.Native.Nat.{ℕ, _-_, _≤_, _<_}
 use native.Mathlib.Omega.{arith}
 use borrow.Author.Count.{below-more}
 use lib.ListN.{length, getD}
@@ -8,8 +8,6 @@ use Rattle.searches.proofs.Deciding.{yes, no}
 use borrow.Author.Needs.{needs}
 use Rattle.searches.proofs.links_fit.Statement.{statement}
 use Rattle.searches.proofs.links_fit.Tie as tie
-use Rattle.searches.proofs.links_fit.Reads as reads
-use Rattle.searches.proofs.links_fit.Lts as lts
 
 abbrev Inv-loop : tie.InvT-loop
 Inv-loop n tails heads weights count i₀ i =

@@ -11,8 +11,6 @@ use Rattle.searches.proofs.Walks.{left-fit, left-room, left-nearer}
 use Rattle.searches.proofs.Pairs.{OutsLeft, outs-all, outs-pairing, outs-on, outs-done}
 use Rattle.searches.proofs.out_arcs.Statement.{statement}
 use Rattle.searches.proofs.out_arcs.Tie as tie
-use Rattle.searches.proofs.out_arcs.Reads as reads
-use Rattle.searches.proofs.out_arcs.Lts as lts
 
 abbrev Inv-loop : tie.InvT-loop
 Inv-loop arcs weights nodes labels₀ heap₀ v tail weight limit run₀ place₀ labels heap run place =

@@ -8,11 +8,6 @@ use Rattle.searches.proofs.Rounds.{turned-away, graph-there, from-groun
 use borrow.Author.Needs.{needs}
 use Rattle.searches.proofs.witness_searches.Statement.{statement}
 use Rattle.searches.proofs.witness_searches.Tie as tie
-use Rattle.searches.proofs.witness_searches.Reads as reads
-use Rattle.searches.proofs.witness_searches.Lts as lts
-use Rattle.searches.proofs.ask_from.Reads as ask-from-reads
-use Rattle.searches.proofs.asks_fit.Reads as asks-fit-reads
-use Rattle.searches.proofs.begin.Reads as begin-reads
 
 returns : tie.Need-returns
 returns c = turned-away (λ p. omega (arith, c .if1 .taken, p .inside))
