@@ -256,7 +256,7 @@ fn begin(
         heads,
         link_weights,
     );
-    // it never is full: there is a place for each link
+    // Never full: there is a place for each link.
     let Added::Arc(_) = added else {
         return refused();
     };
