@@ -85,10 +85,13 @@ fn try_build(case: &Json, lent: &Json) -> Result<(FastGraph, usize), u64> {
 
 /// The links of a case, or refusals 1 to 6.
 fn links(case: &Json) -> Result<InputGraph, u64> {
-    let nodes = case.get("nodes").id();
     let columns = case.get("links");
     let (from, to) = (columns.get("from").ids(), columns.get("to").ids());
-    let weight = columns.get("weight").numbers();
+    checked(case.get("nodes").id(), &from, &to, &columns.get("weight").numbers())
+}
+
+/// Columns as the links of a graph, or refusals 1 to 6.
+pub fn checked(nodes: usize, from: &[NodeId], to: &[NodeId], weight: &[Weight]) -> Result<InputGraph, u64> {
     if nodes > MAX_NODES {
         return Err(1);
     }

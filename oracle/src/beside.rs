@@ -1,9 +1,10 @@
 //! Runs the proved witness search beside the crate's, on random small graphs and on the meshes that are timed.
 
 use crate::constants::{NodeId, MAX_SUM};
-use crate::input_graph::{Edge, InputGraph};
+use crate::input_graph::InputGraph;
 use crate::meshes::{mesh, Rng, NAMES};
 use crate::preparation_graph::PreparationGraph;
+use crate::random::{below, links, Columns};
 use crate::witness_search::WitnessSearch;
 use crate::fail;
 use crate::timing::timed;
@@ -43,12 +44,9 @@ extern "C" {
     ) -> u64;
 }
 
-/// Links in columns, and the slices that a search over them borrows.
+/// Links, and the slices that a search over them borrows.
 struct Ours {
-    n: usize,
-    tails: Vec<u32>,
-    heads: Vec<u32>,
-    link_weights: Vec<u32>,
+    links: Columns,
     arcs: Vec<u32>,
     weights: Vec<u64>,
     nodes: Vec<u32>,
@@ -58,13 +56,9 @@ struct Ours {
 
 impl Ours {
     fn new(graph: &InputGraph) -> Ours {
-        let edges = graph.get_edges();
-        let (n, pool) = (graph.get_num_nodes(), edges.len());
+        let (n, pool) = (graph.get_num_nodes(), graph.get_edges().len());
         Ours {
-            n,
-            tails: edges.iter().map(|e| e.from as u32).collect(),
-            heads: edges.iter().map(|e| e.to as u32).collect(),
-            link_weights: edges.iter().map(|e| e.weight as u32).collect(),
+            links: Columns::of(graph),
             arcs: vec![0; 6 * pool],
             weights: vec![0; pool],
             nodes: vec![0; 4 * n],
@@ -81,10 +75,10 @@ impl Ours {
         let (mut answers, mut counts) = (vec![0u64; targets.len()], vec![0u64; targets.len()]);
         let taken = unsafe {
             witness_searches(
-                self.n,
-                self.tails.as_ptr(), self.tails.len(),
-                self.heads.as_ptr(), self.heads.len(),
-                self.link_weights.as_ptr(), self.link_weights.len(),
+                self.links.n,
+                self.links.tails.as_ptr(), self.links.tails.len(),
+                self.links.heads.as_ptr(), self.links.heads.len(),
+                self.links.weights.as_ptr(), self.links.weights.len(),
                 asked.start as u32, asked.avoid as u32, asked.limit as u32,
                 targets.as_ptr(), targets.len(),
                 sums.as_ptr(), sums.len(),
@@ -108,10 +102,10 @@ impl Ours {
     fn all_pairs(&mut self, limit: usize) -> u64 {
         unsafe {
             all_pairs(
-                self.n,
-                self.tails.as_ptr(), self.tails.len(),
-                self.heads.as_ptr(), self.heads.len(),
-                self.link_weights.as_ptr(), self.link_weights.len(),
+                self.links.n,
+                self.links.tails.as_ptr(), self.links.tails.len(),
+                self.links.heads.as_ptr(), self.links.heads.len(),
+                self.links.weights.as_ptr(), self.links.weights.len(),
                 limit as u32,
                 self.arcs.as_mut_ptr(), self.arcs.len(),
                 self.weights.as_mut_ptr(), self.weights.len(),
@@ -161,24 +155,6 @@ fn crates_own(graph: &InputGraph, asked: &Asked) -> Vec<(u64, u64)> {
     asked.targets.iter().map(ask).collect()
 }
 
-fn below(numbers: &mut Rng, bound: usize) -> usize {
-    numbers.below(bound as u64) as usize
-}
-
-/// Links sorted by tail and head, one for a pair, no loops, often of equal weights.
-fn random_graph(numbers: &mut Rng, nodes: usize) -> InputGraph {
-    let (share, heaviest) = (1 + below(numbers, 9), [1, 3, 9, 1000, 4_294_967_295][below(numbers, 5)]);
-    let mut edges = vec![];
-    for from in 0..nodes {
-        for to in 0..nodes {
-            if from != to && below(numbers, 10) < share {
-                edges.push(Edge { from, to, weight: 1 + below(numbers, heaviest) as u64 });
-            }
-        }
-    }
-    InputGraph::new(nodes, edges)
-}
-
 fn random_asked(numbers: &mut Rng, nodes: usize) -> Asked {
     let avoid = below(numbers, nodes);
     let mut other = || loop {
@@ -201,7 +177,7 @@ pub fn compare(count: usize, seed: u64) {
     let mut asks = 0;
     for case in 0..count {
         let nodes = 2 + below(&mut numbers, 9);
-        let graph = random_graph(&mut numbers, nodes);
+        let graph = links(&mut numbers, nodes);
         let asked = random_asked(&mut numbers, nodes);
         let (ours, theirs) = (Ours::new(&graph).ask(&asked), crates_own(&graph, &asked));
         if ours != theirs {

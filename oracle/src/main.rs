@@ -64,9 +64,14 @@ mod valid_flags;
 mod answer;
 #[cfg(beside)]
 mod beside;
+#[cfg(beside)]
+mod beside_graphs;
+mod changes;
 mod drawn;
 mod json;
 mod meshes;
+#[cfg(beside)]
+mod random;
 mod room;
 mod tables;
 mod timing;
@@ -84,18 +89,22 @@ fn main() {
     let args: Vec<String> = std::env::args().skip(1).collect();
     match args.iter().map(String::as_str).collect::<Vec<_>>()[..] {
         ["answer"] => answer_all(false),
-        ["drawn"] => drawn::lines(),
+        ["drawn", "searches"] => drawn::searches(),
+        ["drawn", "graphs"] => drawn::graphs(),
         ["answer", "--peak"] => answer_all(true),
         #[cfg(beside)]
         ["beside", count, seed] => match (count.parse(), seed.parse()) {
-            (Ok(count), Ok(seed)) => beside::compare(count, seed),
+            (Ok(count), Ok(seed)) => {
+                beside_graphs::compare(count, seed);
+                beside::compare(count, seed)
+            }
             _ => fail("usage: oracle beside COUNT SEED"),
         },
         #[cfg(beside)]
         ["race"] => beside::race(),
         ["time", "--write", folder, ref names @ ..] => timing::time(names, Some(Path::new(folder))),
         ["time", ref names @ ..] => timing::time(names, None),
-        _ => fail("usage: oracle answer [--peak] | oracle drawn | oracle time [--write FOLDER] [GRAPH ...]"),
+        _ => fail("usage: oracle answer [--peak] | oracle drawn searches|graphs | oracle time [--write FOLDER] [GRAPH ...]"),
     }
 }
 

@@ -12,4 +12,5 @@ pub mod Walking
 pub mod Answering
 pub mod Columns
 pub mod Rows
+pub mod Accepted
 pub mod LinksIn

@@ -2,39 +2,6 @@
 // answer and the settled count. `stdout` is what the Rust writes for the same sequence (oracle/src/drawn.rs).
 use libc::STDOUT_FILENO;
 
-fn next(seed: u32) -> u32 {
-    ((seed as u64 * 75 + 74) % 65537) as u32
-}
-
-// Numbers below eight; odd ones where the bit is 1.
-fn draw(out: &mut [u32], bit: u32, seed: u32) -> u32 {
-    let count = out.len();
-    let mut seed = seed;
-    let mut i = 0;
-    while i < count {
-        seed = next(seed);
-        out[i] = (seed & 7) | bit;
-        i += 1;
-    }
-    seed
-}
-
-// Nodes of eight, none of them the one at its place in `from`.
-fn draw_others(out: &mut [u32], from: &[u32], seed: u32) -> u32 {
-    let count = out.len();
-    let mut seed = seed;
-    let mut i = 0;
-    while i < count {
-        if from.len() <= i {
-            return seed;
-        }
-        seed = next(seed);
-        out[i] = from[i] ^ (1 + seed % 7);
-        i += 1;
-    }
-    seed
-}
-
 fn line(answer: u64, count: u64) {
     io::print_decimal(STDOUT_FILENO, answer);
     io::write_all(STDOUT_FILENO, b" ");
@@ -68,10 +35,10 @@ fn search(limit: u32, seed: u32) -> u32 {
     let mut nodes = [0u32; 32];
     let mut labels = [7u64; 16];
     let mut heap = [0u64; 42];
-    let seed = draw(&mut tails, 0, seed);
-    let seed = draw_others(&mut heads, &tails, seed);
-    let seed = draw(&mut weights, 1, seed);
-    let seed = draw_others(&mut targets, &avoid, seed);
+    let seed = draws::draw(&mut tails, 0, seed);
+    let seed = draws::draw_others(&mut heads, &tails, seed);
+    let seed = draws::draw(&mut weights, 1, seed);
+    let seed = draws::draw_others(&mut targets, &avoid, seed);
     searches::witness_searches(
         8,
         &tails,

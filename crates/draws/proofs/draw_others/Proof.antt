@@ -2,11 +2,11 @@ use mathlib.Core.Path.{_≡_}
 use Prim.Native.Nat.{_-_, _≤_}
 use lib.ListN.{length}
 use borrow.Author.Needs.{needs}
-use Rattle.search_cases.proofs.draw_others.Statement.{statement}
-use Rattle.search_cases.proofs.draw_others.Tie as tie
-use Rattle.search_cases.proofs.draw_others.Reads as reads
-use Rattle.search_cases.proofs.draw_others.Lts as lts
-use Rattle.search_cases.proofs.next.Reads as next-reads
+use Rattle.draws.proofs.draw_others.Statement.{statement}
+use Rattle.draws.proofs.draw_others.Tie as tie
+use Rattle.draws.proofs.draw_others.Reads as reads
+use Rattle.draws.proofs.draw_others.Lts as lts
+use Rattle.draws.proofs.next.Reads as next-reads
 
 abbrev Inv-loop : tie.InvT-loop
 Inv-loop out₀ from seed count seed₀ i₀ out seed' i = (i ≤ count) × (length out ≡ length out₀) × (count ≡ length out₀)

@@ -1,0 +1,4 @@
+-- What the proofs share.
+pub mod Changing
+pub mod Copying
+pub mod Listing

@@ -1,0 +1,122 @@
+-- The links are taken in, the changes made, and the list read from what they leave.
+use native.Mathlib.Omega.{arith}
+use Rattle.graph.specs.Memory.{touches}
+use Rattle.graph.proofs.Accepted.{accepted-between}
+use Rattle.graphs.proofs.Listing.{spacious, not-full, list-reads, list-short}
+use borrow.Author.Needs.{needs}
+use Rattle.graphs.proofs.change_and_list.Statement.{statement}
+use Rattle.graphs.proofs.change_and_list.Tie as tie
+use Rattle.graphs.proofs.change_and_list.Reads as reads
+use Rattle.graphs.proofs.change_and_list.Lts as lts
+use Rattle.graph.proofs.preparation_graph.from_input_graph.Reads as from-input-graph-reads
+use Rattle.graphs.proofs.change_all.Reads as change-all-reads
+use Rattle.graphs.proofs.write_rows.Reads as write-rows-reads
+
+from-input-graph-requires : tie.Need-from-input-graph-requires
+from-input-graph-requires c κs = let s = c .before .before .before .before .before .before .before .before .before .before .before .before .before .before .before in (spacious (omega (arith, s)) (s .pre .enough), accepted-between _ _ _ _ (s .pre .accepted))
+
+enum-known-added : tie.Need-enum-known-added
+enum-known-added c = search needs
+
+enum-told : tie.Need-enum-told
+enum-told c = search needs
+
+same-length : tie.Need-same-length
+same-length c = search needs
+
+same-length-2 : tie.Need-same-length-2
+same-length-2 c = search needs
+
+same-length-3 : tie.Need-same-length-3
+same-length-3 c = search needs
+
+returns : tie.Need-returns
+returns c = let f = c .before .before .before .before .before .before .before .before .before .before .before .before .before .before .before .before .before .before .before .before .before .before .before .before .pre in not-full _ _ _ (f .accepted) (f .enough) (c .before .before .before .before .before .before .before .before .from-input-graph .ensures .full (c .enum-told .given .1))
+
+change-all-requires : tie.Need-change-all-requires
+change-all-requires c κs = let s = c .before .before .before .before .before .before .before .before .before .before .before .before .before .before .before .before .before .before .before .before .before .before .before .before .before .before .before .before .before in (s .args .n, _, record { hold = c .before .before .before .before .before .before .before .before .before .before .before .before .before .from-input-graph .ensures .came _ (c .before .before .before .before .before .added .given .1); given = s .pre .given })
+
+mul-start : tie.Need-mul-start
+mul-start c = omega (arith, c .before .before .before .before .before .before .before .before .before .before .before .before .before .before .before .before .before .before .before .before .before .before .before .before .before .before .before .before .before .before .before .before .before .before .before .before .before .before .pre .enough .inside, c .before .before .before .before .before .before .before .before .before .before .before .before .before .before .before .before .before .before .before .before .before .before .before .before .before .before .before .before .before .before .before .before .before .before .before .before .before .before .pre .enough .few-nodes)
+
+mul-start-2 : tie.Need-mul-start-2
+mul-start-2 c = omega (arith, c .before .before .before .before .before .before .before .before .before .before .before .before .before .before .before .before .before .before .before .before .before .before .before .before .before .before .before .before .before .before .before .before .before .before .before .before .before .before .pre .enough .two)
+
+add-start : tie.Need-add-start
+add-start c = omega (arith, c .before .before .before .before .before .before .before .before .before .before .before .before .before .before .before .before .before .before .before .before .before .before .before .before .before .before .before .before .before .before .before .before .before .before .before .before .before .before .pre .enough .inside, c .before .before .before .before .before .before .before .before .before .before .before .before .before .before .before .before .before .before .before .before .before .before .before .before .before .before .before .before .before .before .before .before .before .before .before .before .before .before .pre .enough .few-nodes, c .before .before .before .before .before .before .before .before .before .before .before .before .before .before .before .before .before .before .before .before .before .before .before .before .before .before .before .before .before .before .before .before .before .before .before .before .before .before .pre .enough .two)
+
+mul-start-3 : tie.Need-mul-start-3
+mul-start-3 c = omega (arith, c .before .before .before .before .before .before .before .before .before .before .before .before .before .before .before .before .before .before .before .before .before .before .before .before .before .before .before .before .before .before .before .before .before .before .before .before .before .before .pre .enough .inside, c .before .before .before .before .before .before .before .before .before .before .before .before .before .before .before .before .before .before .before .before .before .before .before .before .before .before .before .before .before .before .before .before .before .before .before .before .before .before .pre .enough .few-nodes, c .before .before .before .before .before .before .before .before .before .before .before .before .before .before .before .before .before .before .before .before .before .before .before .before .before .before .before .before .before .before .before .before .before .before .before .before .before .before .pre .enough .two)
+
+slice-read-start : tie.Need-slice-read-start
+slice-read-start c = let s = c .before .before .before .before .before .before .before .before .before .before .before .before .before .before .before .before .before .before .before .before .before .before .before .before .before .before .before .before .before .before .before .before .before .before .before .before .before .before .before in
+    let f = s .pre in
+    let came = c .before .before .before .before .before .before .before .before .before .before .before .before .before .before .before .before .before .before .before .before .before .before .before .from-input-graph .ensures .came _ (c .before .before .before .before .before .before .before .before .before .before .before .before .before .before .before .added .given .1) in
+    let made = c .before .before .before .before .before .before .before .before .before .change-all .ensures (s .args .n) _ (record { hold = came; given = f .given }) in
+    omega (arith, f .enough .inside, f .enough .two, made .hold .placed .nodes-room)
+
+write-rows-requires : tie.Need-write-rows-requires
+write-rows-requires c κs = let s = c .before .before .before .before .before .before .before .before .before .before .before .before .before .before .before .before .before .before .before .before .before .before .before .before .before .before .before .before .before .before .before .before .before .before .before .before .before .before .before .before .before .before in
+    let f = s .pre in
+    let came = c .before .before .before .before .before .before .before .before .before .before .before .before .before .before .before .before .before .before .before .before .before .before .before .before .before .before .from-input-graph .ensures .came _ (c .before .before .before .before .before .before .before .before .before .before .before .before .before .before .before .before .before .before .added .given .1) in
+    let made = c .before .before .before .before .before .before .before .before .before .before .before .before .change-all .ensures (s .args .n) _ (record { hold = came; given = f .given }) in
+    (f .enough .two, (_, list-reads (made .hold) (s .args .side) (s .args .v) (f .enough .two) (f .enough .inside), omega (arith, f .enough .rows-room, list-short (made .hold) (touches (s .args .side) (s .args .v)))))
+
+cast-result : tie.Need-cast-result
+cast-result c = let s = c .before .before .before .before .before .before .before .before .before .before .before .before .before .before .before .before .before .before .before .before .before .before .before .before .before .before .before .before .before .before .before .before .before .before .before .before .before .before .before .before .before .before .before .before .before in
+    let f = s .pre in
+    let came = c .before .before .before .before .before .before .before .before .before .before .before .before .before .before .before .before .before .before .before .before .before .before .before .before .before .before .before .before .before .from-input-graph .ensures .came _ (c .before .before .before .before .before .before .before .before .before .before .before .before .before .before .before .before .before .before .before .before .before .added .given .1) in
+    let made = c .before .before .before .before .before .before .before .before .before .before .before .before .before .before .before .change-all .ensures (s .args .n) _ (record { hold = came; given = f .given }) in
+    let read = list-reads (made .hold) (s .args .side) (s .args .v) (f .enough .two) (f .enough .inside) in
+    let copied = c .before .before .write-rows .ensures _ read (omega (arith, f .enough .rows-room, list-short (made .hold) (touches (s .args .side) (s .args .v)))) in
+    omega (arith, copied .count-is, list-short (made .hold) (touches (s .args .side) (s .args .v)), s)
+
+same-length-4 : tie.Need-same-length-4
+same-length-4 c = search needs
+
+same-length-5 : tie.Need-same-length-5
+same-length-5 c = search needs
+
+same-length-6 : tie.Need-same-length-6
+same-length-6 c = search needs
+
+same-length-7 : tie.Need-same-length-7
+same-length-7 c = search needs
+
+same-length-8 : tie.Need-same-length-8
+same-length-8 c = search needs
+
+returns-2 : tie.Need-returns-2
+returns-2 c = let s = c .before .before .before .before .before .before .before .before .before .before .before .before .before .before .before .before .before .before .before .before .before .before .before .before .before .before .before .before .before .before .before .before .before .before .before .before .before .before .before .before .before .before .before .before .before in
+    let f = s .pre in
+    let came = c .before .before .before .before .before .before .before .before .before .before .before .before .before .before .before .before .before .before .before .before .before .before .before .before .before .before .before .before .before .from-input-graph .ensures .came _ (c .before .before .before .before .before .before .before .before .before .before .before .before .before .before .before .before .before .before .before .before .before .added .given .1) in
+    let made = c .before .before .before .before .before .before .before .before .before .before .before .before .before .before .before .change-all .ensures (s .args .n) _ (record { hold = came; given = f .given }) in
+    let read = list-reads (made .hold) (s .args .side) (s .args .v) (f .enough .two) (f .enough .inside) in
+    let copied = c .before .before .write-rows .ensures _ read (omega (arith, f .enough .rows-room, list-short (made .hold) (touches (s .args .side) (s .args .v)))) in
+    record { copied = copied; answers-are = made .answers-are }
+
+pub change-and-list-spec : {M : Type 1} → statement M
+change-and-list-spec =
+    tie.close
+    (tie.spec
+    from-input-graph-requires
+    enum-known-added
+    enum-told
+    same-length
+    same-length-2
+    same-length-3
+    returns
+    change-all-requires
+    mul-start
+    mul-start-2
+    add-start
+    mul-start-3
+    slice-read-start
+    write-rows-requires
+    cast-result
+    same-length-4
+    same-length-5
+    same-length-6
+    same-length-7
+    same-length-8
+    returns-2)

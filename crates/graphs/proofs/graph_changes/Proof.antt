@@ -1,0 +1,71 @@
+-- What a test found missing fits not; what none did fits.
+use mathlib.Core.Bool.{false≢true}
+use mathlib.Core.Path.{refl, sym, _∙_}
+use borrow.Author.Tests.{not-true, not-false}
+use borrow.Author.Needs.{needs}
+use Rattle.graphs.proofs.graph_changes.Statement.{statement}
+use Rattle.graphs.proofs.graph_changes.Tie as tie
+use Rattle.graphs.proofs.graph_changes.Reads as reads
+use Rattle.graphs.proofs.graph_changes.Lts as lts
+use Rattle.graph.proofs.input_graph.check_graph.Reads as check-graph-reads
+use Rattle.graphs.proofs.change_and_list.Reads as change-and-list-reads
+use Rattle.graphs.proofs.changes_fit.Reads as changes-fit-reads
+use Rattle.graphs.proofs.lent_fits.Reads as lent-fits-reads
+
+check-graph-requires : tie.Need-check-graph-requires
+check-graph-requires c κs = search needs
+
+returns : tie.Need-returns
+returns c = record { taken = λ f. absurd (c .if1 .taken (c .before .check-graph .ensures ∙ f .accepted)); left = λ _. record { mark = refl; answers-same = refl; rows-same = refl } }
+
+lent-fits-requires : tie.Need-lent-fits-requires
+lent-fits-requires c κs = search needs
+
+returns-2 : tie.Need-returns-2
+returns-2 c = record { taken = λ f. absurd (false≢true (sym (not-true _ (c .if2 .taken)) ∙ c .before .lent-fits .ensures .1 (f .enough))); left = λ _. record { mark = refl; answers-same = refl; rows-same = refl } }
+
+changes-fit-requires : tie.Need-changes-fit-requires
+changes-fit-requires c κs = search needs
+
+returns-3 : tie.Need-returns-3
+returns-3 c = record { taken = λ f. absurd (false≢true (sym (not-true _ (c .if3 .taken)) ∙ c .before .changes-fit .ensures .1 (f .given))); left = λ _. record { mark = refl; answers-same = refl; rows-same = refl } }
+
+change-and-list-requires : tie.Need-change-and-list-requires
+change-and-list-requires c κs = record { accepted = sym (c .before .before .before .before .before .before .before .before .before .before .check-graph .ensures) ∙ c .before .before .before .before .before .before .before .before .before .if1 .left; enough = c .before .before .before .before .before .before .before .before .lent-fits .ensures .0 (not-false _ (c .before .before .before .before .before .before .before .if2 .left)); given = c .before .before .before .before .before .before .changes-fit .ensures .0 (not-false _ (c .before .before .before .before .before .if3 .left)) }
+
+same-length : tie.Need-same-length
+same-length c = search needs
+
+same-length-2 : tie.Need-same-length-2
+same-length-2 c = search needs
+
+same-length-3 : tie.Need-same-length-3
+same-length-3 c = search needs
+
+same-length-4 : tie.Need-same-length-4
+same-length-4 c = search needs
+
+same-length-5 : tie.Need-same-length-5
+same-length-5 c = search needs
+
+returns-4 : tie.Need-returns-4
+returns-4 c =
+    record { taken = λ _. c .before .before .before .before .before .before .before .before .before .before .change-and-list .ensures; left = λ off. absurd (off (record { accepted = sym (c .before .before .before .before .before .before .before .before .before .before .before .before .before .before .before .before .before .before .before .before .before .check-graph .ensures) ∙ c .before .before .before .before .before .before .before .before .before .before .before .before .before .before .before .before .before .before .before .before .if1 .left; enough = c .before .before .before .before .before .before .before .before .before .before .before .before .before .before .before .before .before .before .before .lent-fits .ensures .0 (not-false _ (c .before .before .before .before .before .before .before .before .before .before .before .before .before .before .before .before .before .before .if2 .left)); given = c .before .before .before .before .before .before .before .before .before .before .before .before .before .before .before .before .before .changes-fit .ensures .0 (not-false _ (c .before .before .before .before .before .before .before .before .before .before .before .before .before .before .before .before .if3 .left)) })) }
+
+pub graph-changes-spec : {M : Type 1} → statement M
+graph-changes-spec =
+    tie.close
+    (tie.spec
+    check-graph-requires
+    returns
+    lent-fits-requires
+    returns-2
+    changes-fit-requires
+    returns-3
+    change-and-list-requires
+    same-length
+    same-length-2
+    same-length-3
+    same-length-4
+    same-length-5
+    returns-4)

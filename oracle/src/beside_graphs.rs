@@ -1,0 +1,191 @@
+//! Runs the proved preparation graph and the proved check of links beside the crate's graph and the refusals
+//! around it, on random graphs, changes and columns.
+
+use crate::answer::checked;
+use crate::changes::{Change, Pooled, Row};
+use crate::constants::{NodeId, INVALID_NODE, MAX_LINKS, MAX_NODES};
+use crate::meshes::Rng;
+use crate::random::{below, links, Columns};
+
+#[link(name = "graphs", kind = "static")]
+extern "C" {
+    #[rustfmt::skip]
+    fn graph_refusal(
+        n: usize,
+        tails: *const u32, tails_len: usize,
+        heads: *const u32, heads_len: usize,
+        link_weights: *const u32, link_weights_len: usize,
+    ) -> u32;
+
+    #[rustfmt::skip]
+    fn graph_changes(
+        n: usize, pool: u32,
+        tails: *const u32, tails_len: usize,
+        heads: *const u32, heads_len: usize,
+        link_weights: *const u32, link_weights_len: usize,
+        froms: *const u32, froms_len: usize,
+        tos: *const u32, tos_len: usize,
+        sums: *const u64, sums_len: usize,
+        centres: *const u32, centres_len: usize,
+        side: usize, v: u32,
+        answers: *mut u32, answers_len: usize,
+        rows: *mut u64, rows_len: usize,
+        arcs: *mut u32, arcs_len: usize,
+        weights: *mut u64, weights_len: usize,
+        nodes: *mut u32, nodes_len: usize,
+    ) -> u32;
+}
+
+impl Columns {
+    #[rustfmt::skip]
+    fn refusal(&self) -> u32 {
+        unsafe {
+            graph_refusal(
+                self.n,
+                self.tails.as_ptr(), self.tails.len(),
+                self.heads.as_ptr(), self.heads.len(),
+                self.weights.as_ptr(), self.weights.len(),
+            )
+        }
+    }
+
+    fn crates_refusal(&self) -> u32 {
+        let ids = |column: &[u32]| column.iter().map(|&id| id as NodeId).collect::<Vec<_>>();
+        let weights: Vec<u64> = self.weights.iter().map(|&weight| weight as u64).collect();
+        match checked(self.n, &ids(&self.tails), &ids(&self.heads), &weights) {
+            Ok(_) => 0,
+            Err(number) => number as u32,
+        }
+    }
+
+    /// The answers to the changes, and the list of v after them. What is lent holds rubbish before.
+    #[rustfmt::skip]
+    fn list(&self, pool: usize, changes: &[Change], side: usize, v: NodeId) -> (Vec<u32>, Vec<Row>) {
+        let froms: Vec<u32> = changes.iter().map(|c| c.from as u32).collect();
+        let tos: Vec<u32> = changes.iter().map(|c| c.to.unwrap_or(INVALID_NODE) as u32).collect();
+        let sums: Vec<u64> = changes.iter().map(|c| c.weight).collect();
+        let centres: Vec<u32> = changes.iter().map(|c| c.centre as u32).collect();
+        let (mut answers, mut rows) = (vec![7u32; changes.len()], vec![7u64; 3 * pool]);
+        let (mut arcs, mut weights, mut nodes) = (vec![7u32; 6 * pool], vec![7u64; pool], vec![7u32; 4 * self.n]);
+        let count = unsafe {
+            graph_changes(
+                self.n, pool as u32,
+                self.tails.as_ptr(), self.tails.len(),
+                self.heads.as_ptr(), self.heads.len(),
+                self.weights.as_ptr(), self.weights.len(),
+                froms.as_ptr(), froms.len(),
+                tos.as_ptr(), tos.len(),
+                sums.as_ptr(), sums.len(),
+                centres.as_ptr(), centres.len(),
+                side, v as u32,
+                answers.as_mut_ptr(), answers.len(),
+                rows.as_mut_ptr(), rows.len(),
+                arcs.as_mut_ptr(), arcs.len(),
+                weights.as_mut_ptr(), weights.len(),
+                nodes.as_mut_ptr(), nodes.len(),
+            )
+        };
+        if count as usize == INVALID_NODE {
+            crate::fail("the proved graph did not take what it was handed");
+        }
+        let rows = rows.chunks(3).take(count as usize).map(|row| [row[0], row[1], row[2]]).collect();
+        (answers, rows)
+    }
+}
+
+/// Adds and reduces more often than it disconnects, with few weights, so that all of it happens.
+fn random_changes(numbers: &mut Rng, nodes: usize) -> Vec<Change> {
+    let (count, heaviest) = (below(numbers, 3 * nodes), [2, 9, 1 << 40][below(numbers, 3)]);
+    let change = |numbers: &mut Rng| {
+        let from = below(numbers, nodes);
+        let to = (from + 1 + below(numbers, nodes - 1)) % nodes;
+        let to = if below(numbers, 6) == 0 { None } else { Some(to) };
+        Change { from, to, weight: below(numbers, heaviest) as u64, centre: below(numbers, nodes) }
+    };
+    (0..count).map(|_| change(numbers)).collect()
+}
+
+/// How much was compared.
+#[derive(Default)]
+struct Tally {
+    arcs: usize,
+    changes: usize,
+    refused: usize,
+}
+
+/// Every answer and every list of every node; stops at the first that differs.
+fn compare_changes(numbers: &mut Rng, nodes: usize, tally: &mut Tally) {
+    let graph = links(numbers, nodes);
+    let changes = random_changes(numbers, nodes);
+    let pool = graph.get_edges().len() + below(numbers, 1 + nodes);
+    let mut theirs = Pooled::new(&graph, pool);
+    let refused: Vec<u32> = changes.iter().map(|change| theirs.change(change)).collect();
+    let columns = Columns::of(&graph);
+    tally.changes += changes.len();
+    tally.refused += refused.iter().filter(|&&number| number == 10).count();
+    for v in 0..nodes {
+        for side in 0..2 {
+            let (ours, theirs) = (columns.list(pool, &changes, side, v), (refused.clone(), theirs.list(side, v)));
+            if ours != theirs {
+                println!("{columns:?}\npool {pool}, {changes:?}\nside {side} of {v}\nours {ours:?}\nthe crate's {theirs:?}");
+                std::process::exit(1)
+            }
+            tally.arcs += theirs.1.len();
+        }
+    }
+}
+
+/// Puts a fault into columns: a number changed, two links swapped, columns cut or grown, another count of nodes.
+fn damage(numbers: &mut Rng, columns: &mut Columns) {
+    let Columns { n, tails, heads, weights } = columns;
+    let links = tails.len().min(heads.len()).min(weights.len());
+    if links == 0 {
+        return tails.push(0);
+    }
+    let (i, j, node) = (below(numbers, links), below(numbers, links), below(numbers, n.saturating_add(2)) as u32);
+    match below(numbers, 9) {
+        0 => tails[i] = node,
+        1 => heads[i] = node,
+        2 => heads[i] = tails[i],
+        3 => weights[i] = 0,
+        4 => {
+            tails.swap(i, j);
+            heads.swap(i, j)
+        }
+        5 => heads.truncate(i),
+        6 => weights.push(1),
+        7 if node == 0 => {
+            for column in [tails, heads, weights] {
+                column.resize(MAX_LINKS + i % 2, 1);
+            }
+        }
+        _ => *n = [*n - 1, MAX_NODES, MAX_NODES + 1, usize::MAX][below(numbers, 4)],
+    }
+}
+
+fn compare_refusals(numbers: &mut Rng, nodes: usize) -> u32 {
+    let mut columns = Columns::of(&links(numbers, nodes));
+    for _ in 0..below(numbers, 3) {
+        damage(numbers, &mut columns);
+    }
+    let (ours, theirs) = (columns.refusal(), columns.crates_refusal());
+    if ours != theirs {
+        println!("{columns:?}\nours {ours}, the crate's {theirs}");
+        std::process::exit(1)
+    }
+    ours
+}
+
+/// So many graphs of 2 to 10 nodes and one of up to 60 for every hundred, and as many columns.
+pub fn compare(count: usize, seed: u64) {
+    let mut numbers = Rng(seed);
+    let (mut tally, mut refusals) = (Tally::default(), [0; 7]);
+    for case in 0..count {
+        let nodes = 2 + below(&mut numbers, if case % 100 == 0 { 59 } else { 9 });
+        compare_changes(&mut numbers, nodes, &mut tally);
+        refusals[compare_refusals(&mut numbers, nodes) as usize] += 1;
+    }
+    let Tally { arcs, changes, refused } = tally;
+    println!("{count} graphs, {changes} changes ({refused} refused), {arcs} arcs in their lists: all agree");
+    println!("{count} columns of links, by refusal 0 to 6 {refusals:?}: all agree");
+}
