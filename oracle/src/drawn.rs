@@ -1,11 +1,8 @@
-//! What the crate answers to the cases of crates/search_cases and crates/graph_cases: the same sequence, the
-//! same lines.
+//! What the crate answers to the cases of crates/graph_cases: the same sequence, the same lines.
 
 use crate::changes::{Change, Pooled};
 use crate::constants::NodeId;
 use crate::input_graph::{Edge, InputGraph};
-use crate::preparation_graph::PreparationGraph;
-use crate::witness_search::WitnessSearch;
 
 const NODES: usize = 8;
 
@@ -34,22 +31,6 @@ impl Seed {
     }
 }
 
-pub fn searches() {
-    let mut seed = Seed(1);
-    for turn in 0..60 {
-        let tails = seed.nodes(20);
-        let heads = seed.others(&tails);
-        let graph = PreparationGraph::from_input_graph(&seed.links(&tails, &heads));
-        let mut search = WitnessSearch::new(NODES);
-        search.init(1, 0);
-        let targets = seed.others(&[0; 4]);
-        for (target, sum) in targets.into_iter().zip([24, 6, 12, 3]) {
-            let weight = search.find_max_weight(&graph, target, sum, turn % 10);
-            println!("{weight} {}", search.settled());
-        }
-    }
-}
-
 /// Two heads for each tail, the first below four and the other not.
 fn two_heads(seed: &mut Seed, tails: &[NodeId]) -> Vec<NodeId> {
     let head = |(i, &tail)| {
@@ -59,7 +40,7 @@ fn two_heads(seed: &mut Seed, tails: &[NodeId]) -> Vec<NodeId> {
     tails.iter().enumerate().map(head).collect()
 }
 
-pub fn graphs() {
+pub fn lines() {
     let mut seed = Seed(1);
     for _ in 0..20 {
         let tails: Vec<NodeId> = (0..16).map(|i| i / 2).collect();

@@ -89,8 +89,7 @@ fn main() {
     let args: Vec<String> = std::env::args().skip(1).collect();
     match args.iter().map(String::as_str).collect::<Vec<_>>()[..] {
         ["answer"] => answer_all(false),
-        ["drawn", "searches"] => drawn::searches(),
-        ["drawn", "graphs"] => drawn::graphs(),
+        ["drawn"] => drawn::lines(),
         ["answer", "--peak"] => answer_all(true),
         #[cfg(beside)]
         ["beside", count, seed] => match (count.parse(), seed.parse()) {
@@ -104,7 +103,7 @@ fn main() {
         ["race"] => beside::race(),
         ["time", "--write", folder, ref names @ ..] => timing::time(names, Some(Path::new(folder))),
         ["time", ref names @ ..] => timing::time(names, None),
-        _ => fail("usage: oracle answer [--peak] | oracle drawn searches|graphs | oracle time [--write FOLDER] [GRAPH ...]"),
+        _ => fail("usage: oracle answer [--peak] | oracle drawn | oracle time [--write FOLDER] [GRAPH ...]"),
     }
 }
 

@@ -3,6 +3,39 @@
 use libc::STDOUT_FILENO;
 use rules::INVALID;
 
+fn next(seed: u32) -> u32 {
+    ((seed as u64 * 75 + 74) % 65537) as u32
+}
+
+// Numbers below eight; odd ones where the bit is 1.
+fn draw(out: &mut [u32], bit: u32, seed: u32) -> u32 {
+    let count = out.len();
+    let mut seed = seed;
+    let mut i = 0;
+    while i < count {
+        seed = next(seed);
+        out[i] = (seed & 7) | bit;
+        i += 1;
+    }
+    seed
+}
+
+// Nodes of eight, none of them the one at its place in `from`.
+fn draw_others(out: &mut [u32], from: &[u32], seed: u32) -> u32 {
+    let count = out.len();
+    let mut seed = seed;
+    let mut i = 0;
+    while i < count {
+        if from.len() <= i {
+            return seed;
+        }
+        seed = next(seed);
+        out[i] = from[i] ^ (1 + seed % 7);
+        i += 1;
+    }
+    seed
+}
+
 // Two links of each of eight nodes: one to a node below four, one to another.
 fn draw_heads(heads: &mut [u32], tails: &[u32], seed: u32) -> u32 {
     let count = heads.len();
@@ -12,7 +45,7 @@ fn draw_heads(heads: &mut [u32], tails: &[u32], seed: u32) -> u32 {
         if tails.len() <= i {
             return seed;
         }
-        seed = draws::next(seed);
+        seed = next(seed);
         let mut head = seed & 3;
         if i % 2 == 1 {
             head |= 4;
@@ -147,11 +180,11 @@ fn graph(seed: u32) -> u32 {
     let mut sums = [0u64; 12];
     let mut centres = [0u32; 12];
     let seed = draw_heads(&mut heads, &tails, seed);
-    let seed = draws::draw(&mut weights, 1, seed);
-    let seed = draws::draw(&mut froms, 0, seed);
-    let seed = draws::draw_others(&mut tos, &froms, seed);
-    let seed = draws::draw(&mut numbers, 0, seed);
-    let seed = draws::draw(&mut centres, 0, seed);
+    let seed = draw(&mut weights, 1, seed);
+    let seed = draw(&mut froms, 0, seed);
+    let seed = draw_others(&mut tos, &froms, seed);
+    let seed = draw(&mut numbers, 0, seed);
+    let seed = draw(&mut centres, 0, seed);
     drop_heads(&mut tos);
     widen(&mut sums, &numbers);
     lists(&heads, &weights, &froms, &tos, &sums, &centres);

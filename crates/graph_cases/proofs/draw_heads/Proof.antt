@@ -7,7 +7,7 @@ use Rattle.graph_cases.proofs.draw_heads.Statement.{statement}
 use Rattle.graph_cases.proofs.draw_heads.Tie as tie
 use Rattle.graph_cases.proofs.draw_heads.Reads as reads
 use Rattle.graph_cases.proofs.draw_heads.Lts as lts
-use Rattle.draws.proofs.next.Reads as next-reads
+use Rattle.graph_cases.proofs.next.Reads as next-reads
 
 abbrev Inv-loop : tie.InvT-loop
 Inv-loop heads₀ tails seed count seed₀ i₀ heads seed' i = (i ≤ count) × (length heads ≡ length heads₀) × (count ≡ length heads₀)

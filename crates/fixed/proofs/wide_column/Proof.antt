@@ -1,18 +1,20 @@
+-- The lengths stay.
 use mathlib.Core.Path.{_≡_}
 use Prim.Native.Nat.{_-_, _≤_}
 use lib.ListN.{length}
 use borrow.Author.Needs.{needs}
-use Rattle.draws.proofs.draw_others.Statement.{statement}
-use Rattle.draws.proofs.draw_others.Tie as tie
-use Rattle.draws.proofs.draw_others.Reads as reads
-use Rattle.draws.proofs.draw_others.Lts as lts
-use Rattle.draws.proofs.next.Reads as next-reads
+use Rattle.fixed.proofs.wide_column.Statement.{statement}
+use Rattle.fixed.proofs.wide_column.Tie as tie
+use Rattle.fixed.proofs.wide_column.Reads as reads
+use Rattle.fixed.proofs.wide_column.Lts as lts
+use Rattle.fixed.proofs.past.Reads as past-reads
+use Rattle.fixed.proofs.wide_number.Reads as wide-number-reads
 
 abbrev Inv-loop : tie.InvT-loop
-Inv-loop out₀ from seed count seed₀ i₀ out seed' i = (i ≤ count) × (length out ≡ length out₀) × (count ≡ length out₀)
+Inv-loop bytes at count out₀ places at₀ i₀ out at' i = (i ≤ count) × (length out ≡ length out₀) × (places ≡ length out₀)
 
 abbrev μ-loop : tie.MeasureT-loop
-μ-loop out₀ from seed count seed₀ i₀ out seed' i = count - i
+μ-loop bytes at count out₀ places at₀ i₀ out at' i = count - i
 
 loop-holds : tie.Need-loop-holds Inv-loop μ-loop
 loop-holds c = search needs
@@ -23,23 +25,17 @@ same-length c = search needs
 returns : tie.Need-returns Inv-loop μ-loop
 returns c = search needs
 
-next-requires : tie.Need-next-requires Inv-loop μ-loop
-next-requires c κs = search needs
+wide-number-requires : tie.Need-wide-number-requires Inv-loop μ-loop
+wide-number-requires c κs = search needs
 
 mul-out : tie.Need-mul-out Inv-loop μ-loop
 mul-out c = search needs
 
-shared-slice-read-out : tie.Need-shared-slice-read-out Inv-loop μ-loop
-shared-slice-read-out c = search needs
-
-add-out : tie.Need-add-out Inv-loop μ-loop
-add-out c = search needs
-
-mul-out-2 : tie.Need-mul-out-2 Inv-loop μ-loop
-mul-out-2 c = search needs
-
 slice-write-out : tie.Need-slice-write-out Inv-loop μ-loop
 slice-write-out c = search needs
+
+past-requires : tie.Need-past-requires Inv-loop μ-loop
+past-requires c κs = search needs
 
 add-i : tie.Need-add-i Inv-loop μ-loop
 add-i c = search needs
@@ -56,8 +52,8 @@ same-length-2 c = search needs
 returns-2 : tie.Need-returns-2 Inv-loop μ-loop
 returns-2 c = search needs
 
-pub draw-others-spec : {M : Type 1} → statement M
-draw-others-spec =
+pub wide-column-spec : {M : Type 1} → statement M
+wide-column-spec =
     tie.close
     (tie.spec
     Inv-loop
@@ -65,12 +61,10 @@ draw-others-spec =
     loop-holds
     same-length
     returns
-    next-requires
+    wide-number-requires
     mul-out
-    shared-slice-read-out
-    add-out
-    mul-out-2
     slice-write-out
+    past-requires
     add-i
     loop-less
     loop-again

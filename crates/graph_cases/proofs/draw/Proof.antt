@@ -2,11 +2,11 @@ use mathlib.Core.Path.{_≡_}
 use Prim.Native.Nat.{_-_, _≤_}
 use lib.ListN.{length}
 use borrow.Author.Needs.{needs}
-use Rattle.draws.proofs.draw.Statement.{statement}
-use Rattle.draws.proofs.draw.Tie as tie
-use Rattle.draws.proofs.draw.Reads as reads
-use Rattle.draws.proofs.draw.Lts as lts
-use Rattle.draws.proofs.next.Reads as next-reads
+use Rattle.graph_cases.proofs.draw.Statement.{statement}
+use Rattle.graph_cases.proofs.draw.Tie as tie
+use Rattle.graph_cases.proofs.draw.Reads as reads
+use Rattle.graph_cases.proofs.draw.Lts as lts
+use Rattle.graph_cases.proofs.next.Reads as next-reads
 
 abbrev Inv-loop : tie.InvT-loop
 Inv-loop out₀ bit seed count seed₀ i₀ out seed' i = (i ≤ count) × (length out ≡ length out₀) × (count ≡ length out₀)
