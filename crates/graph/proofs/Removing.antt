@@ -19,7 +19,7 @@ use Rattle.graph.specs.Memory.{Memory, at, first, arc-at, ends-at, touch
 use Rattle.graph.specs.Stands.{Placed, Stands}
 use Rattle.graph.specs.Steps.{set-at, unlink, remove}
 use Rattle.graph.specs.Walks.{Walk, before, drop-first, untouched, steps}
-use Rattle.graph.specs.Promises.{Room, Open, Some, Drops, Clears, state-of}
+use Rattle.graph.specs.Promises.{Room, Open, HoldsSome, Drops, Clears, state-of}
 use Rattle.graph.proofs.Chains.{chain-same, before-in}
 use Rattle.graph.proofs.Places.{all-once, once, roomy, removed-sides, removed-same, removed-free, removed-freed, removed-arcs-long, removed-nodes-long}
 use Rattle.graph.proofs.Reading.{touched, own-arcs, own-walk, walk-on, walk-end, walk-steps, reads-on, reads-list}
@@ -224,8 +224,8 @@ module _ {m : Memory} {free : ℕ} (s v : ℕ) where
         let f = fewer n pool fresh w g here inside in
         rw (sym (f .2) ∙ stands-untouched (f .1) s v two inside none) (f .1)
 
-    pub fewer-some : Some m free v → Some m′ free′ v
-    fewer-some k =
+    pub fewer-holds : HoldsSome m free v → HoldsSome m′ free′ v
+    fewer-holds k =
         let f = fewer (k .nodes) (k .pool) (k .fresh) (k .weights) (k .graph) (k .stands) (k .inside) in
         record {
           nodes = k .nodes;
