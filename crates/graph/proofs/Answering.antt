@@ -10,7 +10,7 @@ use Rattle.graph.specs.declared.preparation_graph.Added.{Added}
 use Rattle.graph.specs.declared.preparation_graph.Added.the-variants.{Arc as Came, Full}
 use Rattle.graph.specs.Memory.{Memory}
 use Rattle.graph.specs.Stands.{Stands}
-use Rattle.graph.specs.Promises.{Ready, Same, Answers, Reduces}
+use Rattle.graph.specs.Promises.{Addable, Same, Answers, Reduces}
 
 came-same : (s t : Pool) → Came s ≡ Came t → s ≡ t
 came-same s t e = cc
@@ -35,8 +35,8 @@ answers-full more = record {
 
 -- the slices are as they were: what is added to them is the answer
 module _ {n pool : ℕ} {m m′ : Memory} {w w′ : List ℕ} (same : Same m w m′ w′) where
-  pub still-ready : {state : Pool} {a : Arc} {g : List Arc} → Ready n pool m w state a g → Ready n pool m′ w′ state a g
-  still-ready r = rw (same .memory-same, same .weights-same) r
+  pub still-addable : {state : Pool} {a : Arc} {g : List Arc} → Addable n pool m w state a g → Addable n pool m′ w′ state a g
+  still-addable r = rw (same .memory-same, same .weights-same) r
 
   pub answers-after : {m″ : Memory} {w″ : List ℕ} {g h : List Arc} {r : Added} → g ≡ h → Answers n pool m′ w′ m″ w″ h r → Answers n pool m w m″ w″ g r
   answers-after {m″} {w″} {g} {h} {r} e k = rw (e, ← (same .memory-same), ← (same .weights-same)) k

@@ -1,20 +1,18 @@
 -- Laws of a chain of links: it changes only where a link on it does. A list of places is seen from b, which stands in front of
 -- it: the link of b leads to the first, and `invalid` in front stands for the node itself.
 use mathlib.Core.Path.{_≡_, refl, sym, ap, _∙_}
-use mathlib.Core.Logic.{inl, inr}
-use mathlib.Core.Bool.{Bool, true, false}
-use mathlib.Core.List.{List, [], _∷_, _++_, List·Memᴰ·head, List·Memᴰ·tail, List·Memᴰ·cases-cons, List·Memᴰ·not-nil, Memᴰ·cast}
-use Prim.Native.Nat.{ℕ, zero, suc, _+_, _≤_, _<_}
+use mathlib.Core.List.{List, [], _∷_, _++_, List·Memᴰ·head, List·Memᴰ·tail, List·Memᴰ·not-nil}
+use Prim.Native.Nat.{ℕ, zero, suc, _+_, _≤_}
 use native.Mathlib.Omega.{arith}
 use native.Mathlib.Decide.{ℕ-discrete}
-use lib.Dec.{eqb}
 use lib.ListN.{length}
-use borrow.Author.Tests.{eqb-true, eqb-false, eq-eqb, ne-eqb}
+use borrow.Author.Tests.{eq-eqb, ne-eqb}
 use Rattle.rules.specs.Numbers.{invalid}
 use Rattle.rules.specs.Lists.{In, keep}
+use Rattle.rules.proofs.Members.{in-rest}
+use Rattle.rules.proofs.Lists.{Distinct, without, other-true, other-same, without-absent}
 use Rattle.graph.specs.Memory.{Chain, last-of}
-use Rattle.graph.specs.Walks.{before, found, steps}
-use Rattle.graph.proofs.Lists.{Distinct, other, without, other-true, other-same, without-absent}
+use Rattle.graph.specs.Walks.{before, steps}
 
 -- none of these is the mark
 abbrev pub Valid : List ℕ → Type 0
@@ -53,9 +51,6 @@ unfolding last-of
 last-append b p [] = refl
 last-append b p (i ∷ l) = last-append i p l
 
-past : (i p : ℕ) (l : List ℕ) → (i ≡ p → ⊥) → In p (i ∷ l) → In p l
-past i p l differ m = elim (List·Memᴰ·cases-cons m) [ inl here ↦ absurd (differ (sym here)) | inr later ↦ later ]
-
 module _ (next next′ : ℕ → ℕ) where
   -- p goes to the end: the last link leads to it
   pub chain-append : (b p : ℕ) (l : List ℕ) → Distinct (b ∷ l) → next′ (last-of b l) ≡ p → next′ p ≡ invalid
@@ -90,7 +85,7 @@ module _ (next next′ : ℕ → ℕ) where
             let same′ : (j : ℕ) → In j (b ∷ i ∷ l) → (j ≡ before i p l → ⊥) → next′ j ≡ next j = rw (t, before) at same in
             rw (other-true p i differ, keep) (
               same′ b (List·Memᴰ·head refl) (λ e. d .0 (rw (sym e) at (before-in i p l))) ∙ c .0,
-              chain-unlink i p l (d .1) (past i p l differ m) on′ (λ j k. same′ j (List·Memᴰ·tail k)) (c .1),
+              chain-unlink i p l (d .1) (in-rest p i l m (λ e. differ (sym e))) on′ (λ j k. same′ j (List·Memᴰ·tail k)) (c .1),
             )
       ]
 
@@ -108,7 +103,7 @@ module _ (next : ℕ → ℕ) where
             rw (t, eq-eqb i p here, before, ← here) r
         | no differ ↦
             rw (other-true p i differ, keep, ne-eqb i p differ, before)
-            (last-unlink i p l (d .1) (λ j k. v j (List·Memᴰ·tail k)) (past i p l differ m) (c .1))
+            (last-unlink i p l (d .1) (λ j k. v j (List·Memᴰ·tail k)) (in-rest p i l m (λ e. differ (sym e))) (c .1))
       ]
     where
       rest : (i : ℕ) (l : List ℕ) → Valid l → Chain next (next i) l

@@ -1,5 +1,4 @@
 -- What the proofs share.
-pub mod Lists
 pub mod Chains
 pub mod Stores
 pub mod Sides

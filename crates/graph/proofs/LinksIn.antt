@@ -16,7 +16,7 @@ use Rattle.graph.specs.declared.preparation_graph.Added.{Added}
 use Rattle.graph.specs.declared.preparation_graph.Added.the-variants.{Arc as Came, Full}
 use Rattle.graph.specs.Memory.{Memory}
 use Rattle.graph.specs.Stands.{Stands}
-use Rattle.graph.specs.Promises.{arc, Ready, Answers, Between, Holds}
+use Rattle.graph.specs.Promises.{arc, Addable, Answers, Between, Holds}
 use Rattle.graph.proofs.Columns.{at, from-link, link-count}
 
 module _ (ts hs ws : List ℕ) (even : Even ts hs ws) where
@@ -57,8 +57,8 @@ module _ {n pool : ℕ} {m : Memory} {w : List ℕ} {state : Pool} (ts hs ws : L
   abbrev pub next-arc : Arc
   next-arc = arc (getD ts i 0) (getD hs i 0) (getD ws i 0) invalid
 
-  pub next-ready : i < length ts → Ready n pool m w state next-arc (so-far ts hs ws (b .even) i)
-  next-ready h = record { stands = stands; tail-in = b .tails i h; head-in = b .heads i h }
+  pub next-addable : i < length ts → Addable n pool m w state next-arc (so-far ts hs ws (b .even) i)
+  next-addable h = record { stands = stands; tail-in = b .tails i h; head-in = b .heads i h }
 
   module _ {m′ : Memory} {w′ : List ℕ} {r : Added} (h : i < length ts)
       (answers : Answers n pool m w m′ w′ (so-far ts hs ws (b .even) i ++ (next-arc ∷ [])) r) where

@@ -1,23 +1,21 @@
 -- An arc comes into a place that was not live, and an arc leaves its place: both sides follow.
 use mathlib.Core.Path.{_≡_, refl, sym, ap, _∙_}
-use mathlib.Core.Logic.{inl, inr}
-use mathlib.Core.Bool.{Bool, true, false}
-use mathlib.Core.List.{List, [], _∷_, _++_, append-assoc, append-nil, List·Memᴰ·head, List·Memᴰ·tail, List·Memᴰ·cases-cons, List·Memᴰ·not-nil, List·Memᴰ·append-cases, List·Memᴰ·eq-of-singleton, Memᴰ·append-left, Memᴰ·append-right}
+use mathlib.Core.List.{List, [], _∷_, _++_, Memᴰ·append-left, Memᴰ·append-right}
 use Prim.Native.Nat.{ℕ, zero, suc, _+_, _*_, _-_, _≤_, _<_}
 use native.Mathlib.Omega.{arith}
 use native.Mathlib.Decide.{ℕ-discrete}
 use lib.Dec.{eqb}
-use lib.ListN.{length, length-set, length-append}
+use lib.ListN.{length, length-set}
 use Rattle.rules.specs.Numbers.{invalid}
 use Rattle.rules.specs.Lists.{In, keep}
 use Rattle.rules.specs.Graph.{Arc}
+use Rattle.rules.proofs.Lists.{keep-same, Distinct, of-distinct, distinct-left, without}
 use Rattle.graph.specs.declared.preparation_graph.Pool.{Pool}
-use Rattle.graph.specs.Memory.{Memory, memory, at, first, last, ends-at, Chain}
-use Rattle.graph.specs.Stands.{Listed, Placed}
+use Rattle.graph.specs.Memory.{Memory, memory, at, ends-at}
+use Rattle.graph.specs.Stands.{Placed}
 use Rattle.graph.specs.Steps.{set-at, append, unlink, write, put}
 use Rattle.graph.specs.Walks.{before}
-use Rattle.graph.proofs.Lists.{keep-same, keep-length, Distinct, of-distinct, to-distinct, distinct-left, distinct-parts, distinct-insert, distinct-moved, in-moved, other, without, without-length, in-without}
-use Rattle.graph.proofs.Chains.{Valid, chain-same, chain-empty}
+use Rattle.graph.proofs.Chains.{Valid}
 use Rattle.graph.proofs.Stores.{Beside, at-same, at-other, beside-append, beside-unlink}
 use Rattle.graph.proofs.Sides.{Sided, Roomy, listed-same, same-ends, beside-sided, append-sided, unlink-sided}
 

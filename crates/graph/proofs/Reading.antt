@@ -1,9 +1,8 @@
 -- For those who read a node's list: it starts at the node's first place, a place that is not the mark holds the list's head and
 -- its link leads to the rest, and the mark is its end.
 use mathlib.Core.Path.{_≡_, refl, sym, ap, _∙_}
-use mathlib.Core.Bool.{Bool, true, false}
 use mathlib.Core.List.{List, [], _∷_, map, List·Memᴰ·head, List·Memᴰ·tail}
-use Prim.Native.Nat.{ℕ, suc, _+_, _*_, _≤_, _<_}
+use Prim.Native.Nat.{ℕ, _+_, _*_, _≤_, _<_}
 use native.Mathlib.Nat.{add-zero}
 use native.Mathlib.Omega.{arith}
 use lib.ListN.{length, getD}
@@ -11,11 +10,11 @@ use Rattle.rules.specs.Numbers.{invalid}
 use Rattle.rules.specs.Lists.{In, keep}
 use Rattle.rules.specs.Graph.{Arc, leaves, enters, outs, ins}
 use Rattle.rules.proofs.Members.{in-keep}
+use Rattle.rules.proofs.Lists.{keep-same, keep-length, keep-map}
 use Rattle.graph.specs.declared.preparation_graph.Pool.{Pool}
 use Rattle.graph.specs.Memory.{Memory, at, first, arc-at, ends-at, touches}
-use Rattle.graph.specs.Stands.{Placed, Stands}
+use Rattle.graph.specs.Stands.{Stands}
 use Rattle.graph.specs.Walks.{column, Walk, Reads, steps}
-use Rattle.graph.proofs.Lists.{keep-same, keep-length, keep-map}
 use Rattle.graph.proofs.Chains.{chain-empty, chain-first, chain-steps}
 use Rattle.graph.proofs.Places.{on-sides, place-below, valid, roomy, live-at-most}
 

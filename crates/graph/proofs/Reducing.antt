@@ -1,32 +1,29 @@
 -- The first arc of the same ends, found in its tail's list, is the one that `addOrReduce` reduces.
 use mathlib.Core.Path.{_≡_, refl, sym, ap, _∙_}
-use mathlib.Core.Logic.{inl, inr}
 use mathlib.Core.Bool.{Bool, true, false, _&&_, true≢false, false≢true}
-use mathlib.Core.List.{List, [], _∷_, _++_, map, List·Memᴰ·head, List·Memᴰ·tail, List·Memᴰ·cases-cons}
+use mathlib.Core.List.{List, [], _∷_, _++_, map, List·Memᴰ·head, List·Memᴰ·tail}
 use Prim.Native.Nat.{ℕ, _+_, _*_, _≤_, _<_}
 use native.Mathlib.Omega.{arith}
-use native.Mathlib.Decide.{ℕ-discrete}
-use lib.Dec.{eqb, leb}
+use lib.Dec.{eqb}
 use lib.ListN.{length, set, getD, length-set}
 use lib.Seq.{getD-set-same, getD-set-other}
-use borrow.Author.Tests.{eqb-true, le-leb, lt-leb}
+use borrow.Author.Tests.{le-leb, lt-leb}
 use Rattle.rules.specs.Numbers.{invalid}
 use Rattle.rules.specs.Lists.{In, any, keep}
 use Rattle.rules.specs.Graph.{Arc, joins, reduce, addOrReduce}
 use Rattle.rules.proofs.Cases.{on-test}
-use Rattle.rules.proofs.Decides.{and-both}
+use Rattle.rules.proofs.Arcs.{same-arc, joined-ends}
+use Rattle.rules.proofs.Lists.{keep-same, map-same, Distinct}
 use Rattle.graph.specs.declared.preparation_graph.Pool.{Pool}
-use Rattle.graph.specs.Memory.{Memory, at, first, arc-at, ends-at}
-use Rattle.graph.specs.Stands.{Listed, Placed, Stands}
+use Rattle.graph.specs.Memory.{Memory, at, arc-at, ends-at}
+use Rattle.graph.specs.Stands.{Placed, Stands}
 use Rattle.graph.specs.Steps.{set-at}
 use Rattle.graph.specs.Walks.{found}
-use Rattle.graph.specs.Promises.{Reduces, Same}
-use Rattle.graph.proofs.Lists.{keep-same, map-same, Distinct}
+use Rattle.graph.specs.Promises.{Reduces}
 use Rattle.graph.proofs.Chains.{Valid, chain-same}
 use Rattle.graph.proofs.Stores.{at-same, at-other}
 use Rattle.graph.proofs.Sides.{listed-same}
 use Rattle.graph.proofs.Places.{valid, once, place-below}
-use Rattle.graph.proofs.Standing.{same-arc}
 
 -- a search among those that pass is a search for what passes both
 pub found-kept : (p q : ℕ → Bool) (l : List ℕ) → found p (keep q l) ≡ found (λ i. q i && p i) l
@@ -47,12 +44,6 @@ found-in p (i ∷ l) h =
     on-test (p i)
     (λ t. rw (t, found) (List·Memᴰ·head refl, t))
     (λ t. rw (t, found) (let r = found-in p l (rw (t, found) at h) in (List·Memᴰ·tail (r .0), r .1)))
-
-joined-ends : (s a : Arc) → joins s a ≡ true → (a .tail ≡ s .tail) × (a .head ≡ s .head)
-unfolding joins
-joined-ends s a e =
-    let both = and-both (eqb (a .tail) (s .tail)) (eqb (a .head) (s .head)) e in
-    (eqb-true (a .tail) (s .tail) (both .0), eqb-true (a .head) (s .head) (both .1))
 
 module _ (s : Arc) (f : ℕ → Arc) where
   -- none joins: the arc is to come

@@ -1,28 +1,27 @@
 -- The graph that stands after the first arc of a node's list has left, and after all of them have.
 use mathlib.Core.Path.{_≡_, refl, sym, ap, _∙_}
 use mathlib.Core.Logic.{inl, inr}
-use mathlib.Core.Bool.{Bool, true, false, not, _&&_, _||_, true≢false, false≢true}
-use mathlib.Core.List.{List, [], _∷_, _++_, map, List·Memᴰ·head, List·Memᴰ·tail, List·Memᴰ·cases-cons, List·Memᴰ·not-nil}
-use Prim.Native.Nat.{ℕ, suc, _+_, _*_, _-_, _≤_, _<_}
+use mathlib.Core.Bool.{Bool, true, false, not, _&&_, _||_, true≢false}
+use mathlib.Core.List.{List, [], _∷_, map, List·Memᴰ·head, List·Memᴰ·cases-cons, List·Memᴰ·not-nil}
+use Prim.Native.Nat.{ℕ, _+_, _-_, _<_}
 use native.Mathlib.Omega.{arith}
-use lib.Dec.{eqb}
 use lib.ListN.{length, length-map}
 use borrow.Author.Tests.{eqb-true, eq-eqb}
 use Rattle.rules.specs.Numbers.{invalid}
 use Rattle.rules.specs.Lists.{In, keep}
 use Rattle.rules.specs.Graph.{Arc, leaves, enters, disconnect}
 use Rattle.rules.proofs.Cases.{on-test}
+use Rattle.rules.proofs.Arcs.{same-arc}
 use Rattle.rules.proofs.Members.{in-keep, keep-in}
+use Rattle.rules.proofs.Lists.{keep-same, keep-all, keep-both, map-same, Distinct, to-distinct, distinct-parts, distinct-moved, in-moved, without, other-same, other-true, without-absent, without-length, in-without}
 use Rattle.graph.specs.declared.preparation_graph.Pool.{Pool}
 use Rattle.graph.specs.Memory.{Memory, at, first, arc-at, ends-at, touches}
 use Rattle.graph.specs.Stands.{Placed, Stands}
 use Rattle.graph.specs.Steps.{set-at, unlink, remove}
 use Rattle.graph.specs.Walks.{Walk, before, drop-first, untouched, steps}
-use Rattle.graph.specs.Promises.{Room, Open, Some, Drops, Clears, state-of}
-use Rattle.graph.proofs.Lists.{keep-same, keep-all, keep-both, keep-map, map-same, Distinct, to-distinct, distinct-parts, distinct-moved, in-moved, other, without, other-same, other-true, without-absent, without-length, in-without}
+use Rattle.graph.specs.Promises.{Room, Open, HoldsSome, Drops, Clears, state-of}
 use Rattle.graph.proofs.Chains.{chain-same, before-in}
-use Rattle.graph.proofs.Places.{valid, all-once, once, roomy, removed-sides, removed-same, removed-free, removed-freed, removed-arcs-long, removed-nodes-long}
-use Rattle.graph.proofs.Standing.{same-arc}
+use Rattle.graph.proofs.Places.{all-once, once, roomy, removed-sides, removed-same, removed-free, removed-freed, removed-arcs-long, removed-nodes-long}
 use Rattle.graph.proofs.Reading.{touched, own-arcs, own-walk, walk-on, walk-end, walk-steps, reads-on, reads-list}
 
 module _ (p : Arc → Bool) where
@@ -225,8 +224,8 @@ module _ {m : Memory} {free : ℕ} (s v : ℕ) where
         let f = fewer n pool fresh w g here inside in
         rw (sym (f .2) ∙ stands-untouched (f .1) s v two inside none) (f .1)
 
-    pub fewer-some : Some m free v → Some m′ free′ v
-    fewer-some k =
+    pub fewer-holds : HoldsSome m free v → HoldsSome m′ free′ v
+    fewer-holds k =
         let f = fewer (k .nodes) (k .pool) (k .fresh) (k .weights) (k .graph) (k .stands) (k .inside) in
         record {
           nodes = k .nodes;

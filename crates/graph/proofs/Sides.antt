@@ -1,8 +1,7 @@
 -- One side of the pool: each node's list is where the links lead, and it stays so when a place is appended or unlinked.
 use mathlib.Core.Path.{_≡_, refl, sym, ap, _∙_}
 use mathlib.Core.Logic.{inl, inr}
-use mathlib.Core.Bool.{Bool, true, false, true≢false}
-use mathlib.Core.List.{List, [], _∷_, _++_, append-nil, List·Memᴰ·head, List·Memᴰ·tail, List·Memᴰ·cases-cons, List·Memᴰ·not-nil, List·Memᴰ·append-cases, List·Memᴰ·eq-of-singleton}
+use mathlib.Core.List.{List, [], _∷_, _++_, append-nil, List·Memᴰ·tail, List·Memᴰ·cases-cons, List·Memᴰ·append-cases, List·Memᴰ·eq-of-singleton}
 use Prim.Native.Nat.{ℕ, _+_, _*_, _≤_, _<_}
 use native.Mathlib.Omega.{arith}
 use native.Mathlib.Decide.{ℕ-discrete}
@@ -13,11 +12,11 @@ use Rattle.rules.specs.Numbers.{invalid}
 use Rattle.rules.specs.Lists.{In, keep}
 use Rattle.rules.proofs.Cases.{on-test}
 use Rattle.rules.proofs.Members.{in-keep, keep-in}
-use Rattle.graph.specs.Memory.{Memory, memory, at, first, last, ends-at, Chain, last-of}
+use Rattle.rules.proofs.Lists.{keep-same, keep-append, keep-one, keep-none, keep-turned, Distinct, keep-distinct, other, without, without-absent}
+use Rattle.graph.specs.Memory.{Memory, at, first, last, ends-at, Chain, last-of}
 use Rattle.graph.specs.Stands.{Listed}
 use Rattle.graph.specs.Steps.{set-at, set-last, follow, append, unlink}
 use Rattle.graph.specs.Walks.{before}
-use Rattle.graph.proofs.Lists.{keep-same, keep-append, keep-one, keep-none, keep-turned, Distinct, keep-distinct, other, without, without-absent}
 use Rattle.graph.proofs.Chains.{Valid, chain-same, chain-append, chain-unlink, last-in, before-in, last-append, last-unlink}
 use Rattle.graph.proofs.Stores.{Beside, at-same, at-other, after, after-place, after-mark, first-of-set-last, last-of-set-last, last-elsewhere, beside-follow, beside-append, beside-unlink, follow-here, follow-link, follow-first, follow-last, follow-other}
 

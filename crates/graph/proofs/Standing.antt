@@ -1,31 +1,24 @@
 -- What each step does to the graph that the slices stand for.
 use mathlib.Core.Path.{_≡_, refl, sym, ap, _∙_}
 use mathlib.Core.Logic.{inl, inr}
-use mathlib.Core.Bool.{Bool, true, false, not, true≢false, false≢true}
-use mathlib.Core.List.{List, [], _∷_, _++_, map, map-append, append-assoc, append-nil, List·Memᴰ·head, List·Memᴰ·tail, List·Memᴰ·cases-cons, List·Memᴰ·not-nil, List·Memᴰ·append-cases, List·Memᴰ·eq-of-singleton, Memᴰ·append-left, Memᴰ·append-right}
-use Prim.Native.Nat.{ℕ, zero, suc, _+_, _*_, _-_, _≤_, _<_}
+use mathlib.Core.List.{List, [], _∷_, _++_, map, map-append, append-assoc, append-nil, List·Memᴰ·head, List·Memᴰ·cases-cons, List·Memᴰ·not-nil, List·Memᴰ·append-cases, List·Memᴰ·eq-of-singleton, Memᴰ·append-left, Memᴰ·append-right}
+use Prim.Native.Nat.{ℕ, _+_, _*_, _≤_, _<_}
 use native.Mathlib.Omega.{arith}
-use native.Mathlib.Decide.{ℕ-discrete}
-use native.Mathlib.Numerals.{add-one}
-use lib.Dec.{eqb}
 use lib.ListN.{length, set, getD, length-set, length-append, length-map}
 use lib.Seq.{getD-set-same, getD-set-other}
 use Rattle.rules.specs.Numbers.{invalid}
 use Rattle.rules.specs.Lists.{In, keep, distinct}
-use Rattle.rules.specs.Graph.{Arc, leaves, enters}
+use Rattle.rules.specs.Graph.{Arc}
+use Rattle.rules.proofs.Arcs.{same-arc}
 use Rattle.rules.proofs.Members.{in-keep}
+use Rattle.rules.proofs.Lists.{map-same, Distinct, to-distinct, distinct-parts, distinct-insert}
 use Rattle.graph.specs.declared.preparation_graph.Pool.{Pool}
-use Rattle.graph.specs.Memory.{Memory, memory, at, first, last, arc-at, ends-at, touches, Chain, last-of}
+use Rattle.graph.specs.Memory.{Memory, memory, at, last, arc-at, ends-at, Chain, last-of}
 use Rattle.graph.specs.Stands.{Placed, Stands}
 use Rattle.graph.specs.Promises.{Open, Takes}
-use Rattle.graph.specs.Steps.{set-at, append, unlink, write, put}
-use Rattle.graph.specs.Walks.{before, drop-first}
-use Rattle.graph.proofs.Lists.{keep-same, keep-length, map-same, Distinct, of-distinct, to-distinct, distinct-left, distinct-parts, distinct-insert, distinct-moved, in-moved, other, without, without-length, in-without}
+use Rattle.graph.specs.Steps.{put}
 use Rattle.graph.proofs.Chains.{chain-same, chain-empty, chain-first, last-in}
-use Rattle.graph.proofs.Places.{Own, place-below, valid, freed-valid, all-once, once, roomy, live-at-most, on-sides, put-sides, put-other, put-tail, put-head, put-centre, put-arcs-long, put-nodes-long}
-
-pub same-arc : {a b : Arc} → a .tail ≡ b .tail → a .head ≡ b .head → a .weight ≡ b .weight → a .centre ≡ b .centre → a ≡ b
-same-arc p q r s = λ i. record { tail = p i; head = q i; weight = r i; centre = s i }
+use Rattle.graph.proofs.Places.{freed-valid, all-once, once, roomy, live-at-most, on-sides, put-sides, put-other, put-tail, put-head, put-centre, put-arcs-long, put-nodes-long}
 
 -- Live arcs never exceed the pool.
 pub within-pool : {n pool : ℕ} {m : Memory} {w : List ℕ} {state : Pool} {g : List Arc} → Stands n pool m w state g → length g ≤ pool

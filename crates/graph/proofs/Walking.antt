@@ -1,15 +1,12 @@
 -- The walks of `predecessor` and `find_arc`, said of the list of places.
 use mathlib.Core.Path.{_≡_, refl, sym, ap, _∙_}
-use mathlib.Core.Logic.{inl, inr}
 use mathlib.Core.Bool.{Bool, true, false}
-use mathlib.Core.List.{List, [], _∷_, List·Memᴰ·head, List·Memᴰ·tail, List·Memᴰ·cases-cons, List·Memᴰ·not-nil}
-use Prim.Native.Nat.{ℕ, _+_, _*_, _≤_, _<_}
-use native.Mathlib.Omega.{arith}
-use lib.Dec.{eqb}
-use lib.ListN.{length}
+use mathlib.Core.List.{List, List·Memᴰ·not-nil}
+use Prim.Native.Nat.{ℕ, _+_}
 use borrow.Author.Tests.{eq-eqb, ne-eqb}
 use Rattle.rules.specs.Numbers.{invalid}
 use Rattle.rules.specs.Lists.{In}
+use Rattle.rules.proofs.Members.{in-rest}
 use Rattle.graph.specs.Walks.{column, Walk, before, found}
 use Rattle.graph.proofs.Reading.{walk-on, walk-end}
 
@@ -38,11 +35,7 @@ module _ {arcs : List ℕ} {s p b at answer : ℕ} (ahead : Ahead arcs s p b at 
       record {
         rest = r .0;
         walk = r .2;
-        there =
-            elim (List·Memᴰ·cases-cons (rw (r .1) at (ahead .there))) [
-              | inl here ↦ absurd (d (sym here))
-              | inr later ↦ later
-            ];
+        there = in-rest p at (r .0) (rw (r .1) at (ahead .there)) (λ e. d (sym e));
         same = sym (ap (before b p) (r .1) ∙ rw (ne-eqb at p d, before) refl) ∙ ahead .same;
       }
 

@@ -39,13 +39,13 @@ pub record Takes (m : Memory) (w : List ℕ) (i : ℕ) (a : Arc) : Type 0 where
   pub enter : Open m 1 (a .head) (last m 1 (a .head))
 
 -- the slices hold g, and a is an arc between its nodes
-pub record Ready (n pool : ℕ) (m : Memory) (w : List ℕ) (state : Pool) (a : Arc) (g : List Arc) : Type 0 where
+pub record Addable (n pool : ℕ) (m : Memory) (w : List ℕ) (state : Pool) (a : Arc) (g : List Arc) : Type 0 where
   pub stands : Stands n pool m w state g
   pub tail-in : a .tail < n
   pub head-in : a .head < n
 
 -- the slices hold some graph of more than v nodes, which no weight and none of the numbers here decides
-pub record Some (m : Memory) (free v : ℕ) : Type 0 where
+pub record HoldsSome (m : Memory) (free v : ℕ) : Type 0 where
   pub nodes : ℕ
   pub pool : ℕ
   pub fresh : ℕ

@@ -23,7 +23,7 @@ ghost use mathlib.Core.List.{map};
 ghost use Rattle.rules.specs.Columns.{linkList};
 ghost use Rattle.rules.specs.Build.{link-arc};
 ghost use Rattle.graph.specs.Given.{links};
-ghost use Rattle.graph.specs.Promises.{Spacious, Between, Holds, arc, state-of, Room, Open, Takes, Ready, Some, Answers, Reduces, Drops, Clears};
+ghost use Rattle.graph.specs.Promises.{Spacious, Between, Holds, arc, state-of, Room, Open, Takes, Addable, HoldsSome, Answers, Reduces, Drops, Clears};
 
 // What goes with the slices: the first of the freed places, and how many places were ever used.
 pub struct Pool {
@@ -171,9 +171,9 @@ pub fn add_edge_or_shortcut(
     weight: u64,
     centre: u32,
 ) -> Added
-    requires { ⌜ ((n : ℕ) × (g : List Arc) × Ready n pool (memory (now arcs) (now nodes)) (now weights) state (arc tail head weight centre) g) ⌝ }
+    requires { ⌜ ((n : ℕ) × (g : List Arc) × Addable n pool (memory (now arcs) (now nodes)) (now weights) state (arc tail head weight centre) g) ⌝ }
     ensures { λ r. ⌜ ((n : ℕ) (g : List Arc) →
-        Ready n pool (memory (now (arcs .entry)) (now (nodes .entry))) (now (weights .entry)) state (arc tail head weight centre) g →
+        Addable n pool (memory (now (arcs .entry)) (now (nodes .entry))) (now (weights .entry)) state (arc tail head weight centre) g →
         Answers n pool (memory (now (arcs .entry)) (now (nodes .entry))) (now (weights .entry)) (memory (now (arcs .exit)) (now (nodes .exit)))
         (now (weights .exit)) (g ++ arc tail head weight centre ∷ []) r) ⌝ }
 {
@@ -205,9 +205,9 @@ pub fn reduce_edge(
     centre: u32,
 ) -> bool
     requires { ⌜ ((n pool : ℕ) × (state : State) × (g : List Arc) ×
-        Ready n pool (memory (now arcs) (now nodes)) (now weights) state (arc tail head weight centre) g) ⌝ }
+        Addable n pool (memory (now arcs) (now nodes)) (now weights) state (arc tail head weight centre) g) ⌝ }
     ensures { λ r. ⌜ ((n pool : ℕ) (state : State) (g : List Arc) →
-        Ready n pool (memory (now (arcs .entry)) (now (nodes .entry))) (now (weights .entry)) state (arc tail head weight centre) g →
+        Addable n pool (memory (now (arcs .entry)) (now (nodes .entry))) (now (weights .entry)) state (arc tail head weight centre) g →
         Reduces n pool (memory (now (arcs .entry)) (now (nodes .entry))) (now (weights .entry)) (memory (now (arcs .exit)) (now (nodes .entry)))
         (now (weights .exit)) state (arc tail head weight centre) g r) ⌝ }
 {
@@ -225,7 +225,7 @@ pub fn reduce_edge(
 
 // Removes the first arc in the list of `node` from both of its lists, and frees its place, which it returns.
 fn remove_first(arcs: &mut [u32], nodes: &mut [u32], side: usize, node: usize, free: u32) -> u32
-    requires { ⌜ (side < 2) × (first (memory (now arcs) (now nodes)) side node ≡ invalid → ⊥) × Some (memory (now arcs) (now nodes)) free node ⌝ }
+    requires { ⌜ (side < 2) × (first (memory (now arcs) (now nodes)) side node ≡ invalid → ⊥) × HoldsSome (memory (now arcs) (now nodes)) free node ⌝ }
     ensures { λ r. ⌜ Drops (memory (now (arcs .entry)) (now (nodes .entry))) (memory (now (arcs .exit)) (now (nodes .exit))) free r side node ⌝ }
 {
     let place = nodes[4 * node + 2 * side];
@@ -240,7 +240,7 @@ fn remove_first(arcs: &mut [u32], nodes: &mut [u32], side: usize, node: usize, f
 
 // Removes every arc in the list of `node`. Returns the first of the freed places.
 fn remove_side(arcs: &mut [u32], nodes: &mut [u32], side: usize, node: usize, free: u32) -> u32
-    requires { ⌜ (side < 2) × Some (memory (now arcs) (now nodes)) free node ⌝ }
+    requires { ⌜ (side < 2) × HoldsSome (memory (now arcs) (now nodes)) free node ⌝ }
     ensures { λ r. ⌜ Clears (memory (now (arcs .entry)) (now (nodes .entry))) (memory (now (arcs .exit)) (now (nodes .exit))) free r side node ⌝ }
 {
     let mut freed = free;
@@ -277,9 +277,9 @@ pub fn add_or_reduce_edge(
     weight: u64,
     centre: u32,
 ) -> Added
-    requires { ⌜ ((n : ℕ) × (g : List Arc) × Ready n pool (memory (now arcs) (now nodes)) (now weights) state (arc tail head weight centre) g) ⌝ }
+    requires { ⌜ ((n : ℕ) × (g : List Arc) × Addable n pool (memory (now arcs) (now nodes)) (now weights) state (arc tail head weight centre) g) ⌝ }
     ensures { λ r. ⌜ ((n : ℕ) (g : List Arc) →
-        Ready n pool (memory (now (arcs .entry)) (now (nodes .entry))) (now (weights .entry)) state (arc tail head weight centre) g →
+        Addable n pool (memory (now (arcs .entry)) (now (nodes .entry))) (now (weights .entry)) state (arc tail head weight centre) g →
         Answers n pool (memory (now (arcs .entry)) (now (nodes .entry))) (now (weights .entry)) (memory (now (arcs .exit)) (now (nodes .exit)))
         (now (weights .exit)) (addOrReduce (arc tail head weight centre) g) r) ⌝ }
 {

@@ -1,42 +1,32 @@
 -- `leaves-first` is a total order, and so the order in which items are pushed leaves no trace.
-use mathlib.Core.Bool.{Bool, true, false, _||_, _&&_, true≢false}
+use mathlib.Core.Bool.{Bool, true, false, true≢false}
 use mathlib.Core.List.{List, [], _∷_}
 use mathlib.Core.Logic.{_⊎_, inl, inr}
 use mathlib.Core.Path.{_≡_, refl, sym, _∙_}
 use Prim.Native.Nat.{_<_, _≤_}
 use native.Mathlib.Nat.{le-refl}
 use native.Mathlib.Omega.{arith}
-use lib.Dec.{ltb, leb, eqb}
-use borrow.Author.Tests.{ltb-true, ltb-false, leb-true, leb-false, eqb-true, lt-ltb, le-leb, eq-eqb}
+use lib.Dec.{ltb, leb}
+use borrow.Author.Tests.{ltb-true, ltb-false, leb-true, leb-false}
 use Rattle.rules.specs.Heap.{Item, leaves-first, push}
+use Rattle.rules.proofs.Decides.{Decides, ltb-decides, leb-decides, eqb-decides, and-decides, or-decides}
 use Rattle.heap.specs.Shape.{First}
 
 -- what the test says of the numbers
 Before : Item → Item → Type 0
 Before x y = (x .weight < y .weight) ⊎ ((x .weight ≡ y .weight) × (x .node ≤ y .node))
 
-or-says : (a b c : Bool) → a || b && c ≡ true → (a ≡ true) ⊎ ((b ≡ true) × (c ≡ true))
-or-says true b c h = inl refl
-or-says false true c h = inr (refl, h)
-or-says false false c h = absurd (true≢false (sym h))
-
-or-right : (a : Bool) → a || true ≡ true
-or-right true = refl
-or-right false = refl
+first-decides : (x y : Item) → Decides (leaves-first x y) (Before x y)
+unfolding leaves-first Before
+first-decides x y =
+    or-decides (ltb-decides (x .weight) (y .weight))
+    (and-decides (eqb-decides (x .weight) (y .weight)) (leb-decides (x .node) (y .node)))
 
 first-says : (x y : Item) → First x y → Before x y
-unfolding leaves-first Before
-first-says x y h = go (or-says _ _ _ h)
-  where
-    go : (ltb (x .weight) (y .weight) ≡ true) ⊎ ((eqb (x .weight) (y .weight) ≡ true) × (leb (x .node) (y .node) ≡ true))
-        → Before x y
-    go (inl a) = inl (ltb-true _ _ a)
-    go (inr b) = inr (eqb-true _ _ (b .0), leb-true _ _ (b .1))
+first-says x y = first-decides x y .0
 
 says-first : (x y : Item) → Before x y → First x y
-unfolding leaves-first Before
-says-first x y (inl a) = rw (lt-ltb _ _ a)
-says-first x y (inr b) = rw (eq-eqb _ _ (b .0), le-leb _ _ (b .1)) (or-right (ltb (x .weight) (y .weight)))
+says-first x y = first-decides x y .1
 
 pub first-refl : (x : Item) → First x x
 unfolding Before

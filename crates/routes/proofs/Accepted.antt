@@ -7,7 +7,7 @@ use Prim.Native.Nat.{ℕ, suc, _≤_, _<_}
 use native.Mathlib.Omega.{arith}
 use lib.Dec.{eqb, ltb}
 use lib.ListN.{length}
-use borrow.Author.Tests.{eqb-true, eqb-false, ltb-true, ltb-false}
+use borrow.Author.Tests.{eqb-true, eqb-false, ltb-true, ltb-false, not-false}
 use Rattle.rules.specs.Numbers.{maxNodes}
 use Rattle.rules.specs.Lists.{In, distinct}
 use Rattle.rules.specs.Columns.{Link, linkList, Table, equally-long, EquallyLong}
@@ -15,7 +15,7 @@ use Rattle.rules.specs.Refusals.{BuildCall, names-none-above, loop, goes-before
 use Rattle.rules.proofs.Decides.{and-both, or-either}
 use Rattle.rules.proofs.TablesDecided.{columns-decided}
 use Rattle.rules.proofs.Rows.{not-met}
-use Rattle.rules.proofs.Cases.{not-not, neither}
+use Rattle.rules.proofs.Cases.{neither}
 use Rattle.rules.proofs.Members.{all-each, none-any}
 
 -- Links go before one another by (tail, head).
@@ -73,7 +73,7 @@ table-long : (n : ℕ) (t : Table) → table-short n t ≡ false → (suc n ≤ 
 unfolding table-short
 table-long n t e =
     let b = neither (ltb (length (t .starts)) (suc n)) (not (equally-long t)) e in
-    (ltb-false (length (t .starts)) (suc n) (b .0), columns-decided t .0 (not-not (equally-long t) (b .1)))
+    (ltb-false (length (t .starts)) (suc n) (b .0), columns-decided t .0 (not-false (equally-long t) (b .1)))
 
 not-zero : (w : ℕ) → eqb w 0 ≡ false → 1 ≤ w
 not-zero w e = omega (arith, eqb-false w 0 e)
@@ -90,7 +90,7 @@ accepted-build c e =
     let r7 = not-met 6 _ _ (r6 .1) in
     let r8 = not-met 7 _ _ (r7 .1) in
     let r9 = not-met 8 _ _ (r8 .1) in
-    let order = and-both _ _ (not-not _ (r8 .0)) in
+    let order = and-both _ _ (not-false _ (r8 .0)) in
     let room = neither _ _ (r9 .0) in
     let room′ = neither _ _ (room .0) in
     let room″ = neither _ _ (room′ .0) in
@@ -100,12 +100,12 @@ accepted-build c e =
       nodes = ltb-false maxNodes (c .nodes) (r1 .0);
       below =
           λ l m.
-          let b = and-both _ _ (all-each (names-none-above (c .nodes)) (linkList (c .links)) (not-not _ (r3 .0)) l m) in
+          let b = and-both _ _ (all-each (names-none-above (c .nodes)) (linkList (c .links)) (not-false _ (r3 .0)) l m) in
           (ltb-true (l .tail) (c .nodes) (b .0), ltb-true (l .head) (c .nodes) (b .1));
       loopless = λ l m. eqb-false (l .tail) (l .head) (none-any loop (linkList (c .links)) (r4 .0) l m);
       positive = λ l m. not-zero (l .weight) (none-any _ (linkList (c .links)) (r5 .0) l m);
-      links-ascend = not-not _ (r6 .0);
-      order-length = eqb-true (length (c .order)) (c .nodes) (not-not _ (r7 .0));
+      links-ascend = not-false _ (r6 .0);
+      order-length = eqb-true (length (c .order)) (c .nodes) (not-false _ (r7 .0));
       order-below = λ v m. ltb-true v (c .nodes) (all-each (λ u. ltb u (c .nodes)) (c .order) (order .0) v m);
       order-distinct = order .1;
       ranks-room = ltb-false (length (c .lent .ranks)) (c .nodes) (room″ .0);

@@ -5,11 +5,11 @@ use mathlib.Core.Bool.{true, not, _||_, or-true, false≢true}
 use mathlib.Core.List.{List, [], _∷_, List·Memᴰ·head, List·Memᴰ·tail, List·Memᴰ·cases-cons, List·Memᴰ·not-nil}
 use Prim.Native.Nat.{ℕ, _≤_}
 use native.Mathlib.Omega.{arith}
-use lib.Dec.{eqb, leb}
+use lib.Dec.{leb}
 use borrow.Author.Tests.{eqb-true, eq-eqb, ne-eqb, leb-true, leb-false}
 use Rattle.rules.specs.Lists.{In}
 use Rattle.rules.specs.Graph.{Arc, leaves, enters, outs, ins, joins, reduce, addOrReduce, disconnect}
-use Rattle.rules.proofs.Decides.{and-both}
+use Rattle.rules.proofs.Arcs.{same-arc, joined-ends}
 use Rattle.rules.proofs.Cases.{on-test}
 use Rattle.rules.proofs.Members.{keep-in, in-keep}
 use Rattle.routes.specs.Paths.{Edges, Path}
@@ -21,13 +21,7 @@ Arcs g u v w = (c : ℕ) × In (record { tail = u; head = v; weight = w; centre 
 
 -- an arc said by its ends
 pub by-ends : (x : Arc) {u v : ℕ} → x .tail ≡ u → x .head ≡ v → record { tail = u; head = v; weight = x .weight; centre = x .centre } ≡ x
-by-ends x p q = λ i. record { tail = sym p i; head = sym q i; weight = x .weight; centre = x .centre }
-
-pub joined-ends : (s a : Arc) → joins s a ≡ true → (a .tail ≡ s .tail) × (a .head ≡ s .head)
-unfolding joins
-joined-ends s a e =
-    let both = and-both (eqb (a .tail) (s .tail)) (eqb (a .head) (s .head)) e in
-    (eqb-true (a .tail) (s .tail) (both .0), eqb-true (a .head) (s .head) (both .1))
+by-ends x p q = same-arc (sym p) (sym q) refl refl
 
 -- a reduced arc keeps its ends, and weighs no more than either
 pub reduced : (s a : Arc) → joins s a ≡ true → (reduce s a .tail ≡ a .tail) × (reduce s a .head ≡ a .head) × (reduce s a .weight ≤ a .weight) × (reduce s a .weight ≤ s .weight)

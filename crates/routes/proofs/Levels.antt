@@ -14,12 +14,13 @@ use Rattle.rules.specs.Lists.{In, keep, position}
 use Rattle.rules.specs.Columns.{Link, Side, forward, backward}
 use Rattle.rules.specs.Graph.{Arc, outs, ins, joins, reduce, addOrReduce, disconnect}
 use Rattle.rules.specs.Build.{went, shortcut, contract-node, Level, arcs-of, neighbour-of}
+use Rattle.rules.proofs.Arcs.{joined-ends}
 use Rattle.rules.proofs.Decides.{both-and}
 use Rattle.rules.proofs.Cases.{on-test}
 use Rattle.rules.proofs.Members.{in-keep}
 use Rattle.rules.proofs.Positions.{same-position}
 use Rattle.routes.specs.Demand.{Linked}
-use Rattle.routes.proofs.Graphs.{in-outs, in-ins, in-disconnected, joined-ends, reduced}
+use Rattle.routes.proofs.Graphs.{in-outs, in-ins, in-disconnected, reduced}
 use Rattle.routes.proofs.Contraction.{Loopless, shortcuts-keep, contracted}
 
 -- no two arcs of the same ends, at any two places

@@ -2,7 +2,7 @@
 use mathlib.Core.Path.{_≡_, refl, sym, _∙_, ap}
 use mathlib.Core.Logic.{inl, inr}
 use mathlib.Core.Bool.{_&&_}
-use mathlib.Core.List.{List, [], _∷_, _++_, map, map-append, append-assoc, List·Memᴰ·head, List·Memᴰ·cases-cons, List·Memᴰ·not-nil, List·Memᴰ·eq-of-singleton, Memᴰ·cast, Memᴰ·append-left, Memᴰ·append-right, List·Memᴰ·append-cases}
+use mathlib.Core.List.{List, [], _∷_, _++_, map, map-append, append-assoc, List·Memᴰ·head, List·Memᴰ·not-nil, List·Memᴰ·eq-of-singleton, Memᴰ·cast, Memᴰ·append-left, Memᴰ·append-right, List·Memᴰ·append-cases}
 use Prim.Native.Nat.{ℕ, suc, _+_, _-_, _≤_, _<_, zero-le}
 use native.Mathlib.Omega.{arith}
 use native.Mathlib.Numerals.{add-one}
@@ -21,7 +21,7 @@ use Rattle.rules.proofs.Decides.{and-both}
 use Rattle.rules.proofs.Ranges.{Differ}
 use Rattle.rules.proofs.Cases.{on-test}
 use Rattle.rules.proofs.Steps.{went-same, refused-not-went, both-went}
-use Rattle.rules.proofs.Members.{getD-in}
+use Rattle.rules.proofs.Members.{getD-in, in-rest}
 use Rattle.rules.proofs.Positions.{position-is, position-first}
 use Rattle.routes.specs.Paths.{Edges, Path, stay, step}
 use Rattle.routes.proofs.Paths.{last-edge}
@@ -151,9 +151,6 @@ module _ (c : BuildCall) (ls : List Link) (d : ℕ) (differ : Differ (c .order) 
         later-in-rest (xs ++ (v ∷ [])) vs (append-assoc xs (v ∷ []) vs ∙ ok .nodes) (neighbour-of side x)
         (rw long (level .higher side x m))
 
-    among : (a : ℕ) → In a (v ∷ vs) → (a ≡ v → ⊥) → In a vs
-    among a m off = elim (List·Memᴰ·cases-cons m) [ inl here ↦ absurd (off here) | inr later ↦ later ]
-
     follow : {a e w : ℕ} → In a vs → In e vs → Path (Arcs (b .graph)) e a w → (a ≡ v → ⊥) → (e ≡ v → ⊥) → LevelUpDown K a e w
     follow ma me p offa offe =
         let q = contraction-keeps (c .pool) (c .limit) v (b .graph) (k .graph) (ok .graph .loopless) (s .contracts) p offa offe in
@@ -196,12 +193,12 @@ module _ (c : BuildCall) (ls : List Link) (d : ℕ) (differ : Differ (c .order) 
           | yes ha ↦
               elim (ℕ-discrete e v) [
                 | yes he ↦ (v, 0, 0, stay ha refl, stay he refl, zero-le)
-                | no offe ↦ from-v p ha (among e me offe) offe
+                | no offe ↦ from-v p ha (in-rest e v vs me offe) offe
               ]
           | no offa ↦
               elim (ℕ-discrete e v) [
-                | yes he ↦ to-v p he (among a ma offa) offa
-                | no offe ↦ follow (among a ma offa) (among e me offe) p offa offe
+                | yes he ↦ to-v p he (in-rest a v vs ma offa) offa
+                | no offe ↦ follow (in-rest a v vs ma offa) (in-rest e v vs me offe) p offa offe
               ]
         ]
 

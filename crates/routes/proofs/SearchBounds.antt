@@ -5,48 +5,49 @@ use mathlib.Core.Bool.{Bool, true, false, not}
 use mathlib.Core.List.{List, [], _∷_}
 use Prim.Native.Nat.{ℕ, zero, suc, _+_, _≤_, _<_, zero-le}
 use native.Mathlib.Omega.{arith}
-use lib.Dec.{eqb, ltb, leb}
+use lib.Dec.{eqb, ltb}
 use lib.ListN.{length}
 use borrow.Author.Tests.{eqb-true, eqb-false}
 use Rattle.rules.specs.Lists.{keep, update}
 use Rattle.rules.specs.Heap.{Item}
 use Rattle.rules.specs.Graph.{Arc, leaves, outs, joins, addOrReduce}
-use Rattle.rules.specs.Search.{Search, init, offer, relax, with-heap, mark-settled, settle, reached, run, search-fuel, find-max-weight}
+use Rattle.rules.specs.Search.{Search, init, offer, relax, with-heap, mark-settled, settle, run, search-fuel, find-max-weight}
 use Rattle.rules.proofs.Cases.{on-test}
 use Rattle.rules.proofs.Heaps.{update-same, update-other, push-length}
 use Rattle.routes.proofs.Graphs.{reduced}
-use Rattle.routes.proofs.Searches.{search-keeps}
+use Rattle.routes.proofs.Searches.{first-turn, search-keeps}
 
-offer-length : (i : Item) (s : Search) → length (offer i s .heap) ≤ suc (length (s .heap))
+-- What an offer leaves alone, and how the heap grows.
+pub record Grown (most : ℕ) (s s′ : Search) : Type 0 where
+  pub settled : s′ .settled ≡ s .settled
+  pub count : s′ .count ≡ s .count
+  pub heap : length (s′ .heap) ≤ most + length (s .heap)
+
+pub offer-grows : (i : Item) (s : Search) → Grown 1 s (offer i s)
 unfolding offer
-offer-length i s =
+offer-grows i s =
     on-test (ltb (i .weight) (s .label (i .node)))
-    (λ t. rw (t, offer) (omega (arith, push-length i (s .heap))))
-    (λ t. rw (t, offer) (omega arith))
+    (λ t. rw (t, offer) (record { settled = refl; count = refl; heap = omega (arith, push-length i (s .heap)) }))
+    (λ t. rw (t, offer) (record { settled = refl; count = refl; heap = omega arith }))
 
-relax-length : (avoid w : ℕ) (bs : List Arc) (s : Search) → length (relax avoid w bs s .heap) ≤ length bs + length (s .heap)
+relax-grows : (avoid w : ℕ) (bs : List Arc) (s : Search) → Grown (length bs) s (relax avoid w bs s)
 unfolding relax
-relax-length avoid w [] s = omega arith
-relax-length avoid w (b ∷ bs) s =
+relax-grows avoid w [] s = record { settled = refl; count = refl; heap = omega arith }
+relax-grows avoid w (b ∷ bs) s =
     on-test (eqb (b .head) avoid)
-    (λ t. rw (t, relax) (omega (arith, relax-length avoid w bs s)))
+    (λ t.
+    let more = relax-grows avoid w bs s in
+    rw (t, relax) (record { settled = more .settled; count = more .count; heap = omega (arith, more .heap) }))
     (λ t.
     let i : Item = record { weight = w + b .weight; node = b .head } in
-    rw (t, relax) (omega (arith, relax-length avoid w bs (offer i s), offer-length i s)))
-
-relax-settled : (avoid w : ℕ) (bs : List Arc) (s : Search) → relax avoid w bs s .settled ≡ s .settled
-unfolding relax offer
-relax-settled avoid w [] s = refl
-relax-settled avoid w (b ∷ bs) s =
-    on-test (eqb (b .head) avoid)
-    (λ t. rw (t, relax) (relax-settled avoid w bs s))
-    (λ t.
-    let i : Item = record { weight = w + b .weight; node = b .head } in
-    rw (t, relax) (relax-settled avoid w bs (offer i s) ∙ offer-settled i s))
-  where
-    offer-settled : (i : Item) (s : Search) → offer i s .settled ≡ s .settled
-    offer-settled i s =
-        on-test (ltb (i .weight) (s .label (i .node))) (λ t. rw (t, offer)) (λ t. rw (t, offer))
+    let one = offer-grows i s in
+    let more = relax-grows avoid w bs (offer i s) in
+    rw (t, relax)
+    (record {
+      settled = more .settled ∙ one .settled;
+      count = more .count ∙ one .count;
+      heap = omega (arith, more .heap, one .heap);
+    }))
 
 -- the arcs whose tail is settled, and those whose tail is not
 abbrev pub paid : (ℕ → Bool) → List Arc → ℕ
@@ -55,7 +56,7 @@ paid f g = length (keep (λ (x : Arc). f (x .tail)) g)
 abbrev pub unpaid : (ℕ → Bool) → List Arc → ℕ
 unpaid f g = length (keep (λ (x : Arc). not (f (x .tail))) g)
 
-paid-most : (f : ℕ → Bool) (g : List Arc) → paid f g + unpaid f g ≡ length g
+pub paid-most : (f : ℕ → Bool) (g : List Arc) → paid f g + unpaid f g ≡ length g
 unfolding keep
 paid-most f [] = refl
 paid-most f (x ∷ g) =
@@ -109,55 +110,70 @@ pub added-paid : (x : Arc) (g : List Arc) (s : Search) → Paid g s → Paid (ad
 added-paid x g s h = omega (arith, added-pays (s .settled) x g)
 
 module _ (g : List Arc) (avoid : ℕ) where
-  -- one entry leaves, and the out-arcs of its node are paid for
-  settle-balance : (i : Item) (q : List Item) (s : Search) → s .heap ≡ i ∷ q → s .settled (i .node) ≡ false →
-      (length (settle g avoid i (with-heap q s) .heap) ≤ length (outs g (i .node)) + length q) ×
-      (paid (settle g avoid i (with-heap q s) .settled) g ≡ paid (s .settled) g + length (outs g (i .node)))
-  unfolding settle mark-settled with-heap
-  settle-balance i q s e off = (
-    relax-length avoid (i .weight) (outs g (i .node)) (with-heap q s),
-    ap (λ f. paid (update (i .node) true f) g) (relax-settled avoid (i .weight) (outs g (i .node)) (with-heap q s)) ∙
-        settle-pays (s .settled) (i .node) g off,
-  )
-
-  pub search-paid : (limit target sum : ℕ) (s : Search) → Paid g s → Paid g (find-max-weight g avoid limit target sum s .search)
-  unfolding with-heap
-  search-paid limit target sum =
-      search-keeps g avoid limit target sum (Paid g)
-      (λ i q s e h. omega (arith, ap length e))
-      (λ i q s e off h. let b = settle-balance i q s e off in omega (arith, ap length e, b .0, b .1))
-
   -- what can still leave the heap
   abbrev pub left : Search → ℕ
   left s = length (s .heap) + unpaid (s .settled) g
 
+  -- An entry leaves: less can leave, and there is room.
+  module _ (i : Item) (q : List Item) (s : Search) (e : s .heap ≡ i ∷ q) where
+    pub passed-paid : Paid g s → Paid g (with-heap q s)
+    unfolding with-heap
+    passed-paid p = omega (arith, ap length e)
+
+    pub passed-left : left (with-heap q s) < left s
+    unfolding with-heap
+    passed-left = omega (arith, ap length e)
+
+    -- its node was not settled: it pays for its out-arcs
+    module _ (off : s .settled (i .node) ≡ false) where
+      grown : Grown (length (outs g (i .node))) (with-heap q s) (relax avoid (i .weight) (outs g (i .node)) (with-heap q s))
+      grown = relax-grows avoid (i .weight) (outs g (i .node)) (with-heap q s)
+
+      heap-now : length (settle g avoid i (with-heap q s) .heap) ≤ length (outs g (i .node)) + length q
+      unfolding settle mark-settled with-heap
+      heap-now = grown .heap
+
+      settled-now : settle g avoid i (with-heap q s) .settled ≡ update (i .node) true (s .settled)
+      unfolding settle mark-settled with-heap
+      settled-now = ap (update (i .node) true) (grown .settled)
+
+      paid-now : paid (settle g avoid i (with-heap q s) .settled) g ≡ paid (s .settled) g + length (outs g (i .node))
+      paid-now = rw settled-now (settle-pays (s .settled) (i .node) g off)
+
+      pub settle-count : settle g avoid i (with-heap q s) .count ≡ suc (s .count)
+      unfolding settle mark-settled with-heap
+      settle-count = ap suc (grown .count)
+
+      pub settle-paid : Paid g s → Paid g (settle g avoid i (with-heap q s))
+      settle-paid p = omega (arith, ap length e, heap-now, paid-now)
+
+      pub settle-left : left (settle g avoid i (with-heap q s)) < left s
+      settle-left =
+          omega (
+            arith,
+            ap length e,
+            heap-now,
+            paid-now,
+            paid-most (s .settled) g,
+            paid-most (settle g avoid i (with-heap q s) .settled) g,
+          )
+
+      -- the heap has room for an entry of each out-arc
+      pub settle-room : Paid g s → length q + length (outs g (i .node)) ≤ length g
+      settle-room p =
+          omega (arith, ap length e, paid-now, paid-most (settle g avoid i (with-heap q s) .settled) g)
+
+  pub search-paid : (limit target sum : ℕ) (s : Search) → Paid g s → Paid g (find-max-weight g avoid limit target sum s .search)
+  search-paid limit target sum = search-keeps g avoid limit target sum (Paid g) passed-paid settle-paid
+
   module _ (limit target sum : ℕ) where
     -- The fuel never runs out: with more than can leave, one more changes nothing.
     pub run-enough : (k : ℕ) (s : Search) → left s < k → run g avoid limit target sum k s ≡ run g avoid limit target sum (suc k) s
-    unfolding run with-heap
     run-enough zero s h = absurd (omega arith)
-    run-enough (suc k) s h = go (s .heap) refl (run-enough k)
-      where
-        go : (q : List Item) → s .heap ≡ q → ((t : Search) → left t < k → run g avoid limit target sum k t ≡ run g avoid limit target sum (suc k) t) →
-            run g avoid limit target sum (suc k) s ≡ run g avoid limit target sum (suc (suc k)) s
-        go [] e on = rw (e, run)
-        go (i ∷ q) e on =
-            rw (e, run)
-            (on-test (leb limit (s .count)) (λ t. rw t)
-            (λ t.
-            rw t
-            (on-test (ltb sum (i .weight)) (λ t. rw t)
-            (λ t.
-            rw t
-            (on-test (s .settled (i .node))
-            (λ t. rw t (on (with-heap q s) (omega (arith, ap length e))))
-            (λ t.
-            let b = settle-balance i q s e t in
-            let s′ = settle g avoid i (with-heap q s) in
-            rw t
-            (on-test (reached g avoid limit target sum i s′)
-            (λ t. rw t)
-            (λ t. rw t (on s′ (omega (arith, ap length e, b .0, b .1, paid-most (s .settled) g, paid-most (s′ .settled) g)))))))))))
+    run-enough (suc k) s h =
+        first-turn g avoid limit target sum (λ x y. x ≡ y) k (suc k) s refl
+        (λ i q e. run-enough k (with-heap q s) (omega (arith, passed-left i q s e)))
+        (λ i q e t. (refl, run-enough k (settle g avoid i (with-heap q s)) (omega (arith, settle-left i q s e t))))
 
     pub search-fuel-enough : (s : Search) → left s < search-fuel g avoid limit target sum s
     unfolding search-fuel

@@ -103,6 +103,37 @@ module _ (g : List Arc) (v : ℕ) {a : ℕ} (away : a ≡ v → ⊥) where
       let r = relax-walked (i .node) (i .weight) (outs g (i .node)) s (in-outs g (i .node)) p x in
       record { labels = r .labels; items = r .items }
 
+-- Two runs from one search, by their first turn: both stop, or both go on with the fuel that is left to them.
+module _ (g : List Arc) (avoid limit target sum : ℕ) (R : Search → Search → Type 0) where
+  pub first-turn : (j k : ℕ) (s : Search) → R s s →
+      ((i : Item) (q : List Item) → s .heap ≡ i ∷ q →
+      R (run g avoid limit target sum j (with-heap q s)) (run g avoid limit target sum k (with-heap q s))) →
+      ((i : Item) (q : List Item) → s .heap ≡ i ∷ q → s .settled (i .node) ≡ false →
+      R (settle g avoid i (with-heap q s)) (settle g avoid i (with-heap q s)) ×
+      R (run g avoid limit target sum j (settle g avoid i (with-heap q s))) (run g avoid limit target sum k (settle g avoid i (with-heap q s)))) →
+      R (run g avoid limit target sum (suc j) s) (run g avoid limit target sum (suc k) s)
+  unfolding run
+  first-turn j k s stops passes settles = go (s .heap) refl
+    where
+      go : (q : List Item) → s .heap ≡ q → R (run g avoid limit target sum (suc j) s) (run g avoid limit target sum (suc k) s)
+      go [] e = rw (e, run) stops
+      go (i ∷ q) e =
+          rw (e, run)
+          (on-test (leb limit (s .count)) (λ t. rw t stops)
+          (λ t.
+          rw t
+          (on-test (ltb sum (i .weight)) (λ t. rw t stops)
+          (λ t.
+          rw t
+          (on-test (s .settled (i .node))
+          (λ t. rw t (passes i q e))
+          (λ t.
+          let on = settles i q e t in
+          rw t
+          (on-test (reached g avoid limit target sum i (settle g avoid i (with-heap q s)))
+          (λ t. rw t (on .0))
+          (λ t. rw t (on .1)))))))))
+
 -- What passing over an entry keeps, and settling one, a whole search keeps.
 module _ (g : List Arc) (avoid limit target sum : ℕ) (P : Search → Type 0)
     (passed : (i : Item) (q : List Item) (s : Search) → s .heap ≡ i ∷ q → P s → P (with-heap q s))
@@ -112,27 +143,11 @@ module _ (g : List Arc) (avoid limit target sum : ℕ) (P : Search → Type 0)
   unfolding run
   run-keeps zero s x = x
   run-keeps (suc k) s x =
-      go (run-keeps k) (s .heap) refl
-    where
-      go : ((t : Search) → P t → P (run g avoid limit target sum k t)) → (q : List Item) → s .heap ≡ q →
-          P (run g avoid limit target sum (suc k) s)
-      go on [] e = rw (e, run) x
-      go on (i ∷ q) e =
-          rw (e, run)
-          (on-test (leb limit (s .count)) (λ t. rw t x)
-          (λ t.
-          rw t
-          (on-test (ltb sum (i .weight)) (λ t. rw t x)
-          (λ t.
-          rw t
-          (on-test (s .settled (i .node))
-          (λ t. rw t (on (with-heap q s) (passed i q s e x)))
-          (λ t.
-          let y = settles i q s e t x in
-          rw t
-          (on-test (reached g avoid limit target sum i (settle g avoid i (with-heap q s)))
-          (λ t. rw t y)
-          (λ t. rw t (on (settle g avoid i (with-heap q s)) y)))))))))
+      first-turn g avoid limit target sum (λ r _. P r) k k s x
+      (λ i q e. run-keeps k (with-heap q s) (passed i q s e x))
+      (λ i q e t.
+      let y = settles i q s e t x in
+      (y, run-keeps k (settle g avoid i (with-heap q s)) y))
 
   pub search-keeps : (s : Search) → P s → P (find-max-weight g avoid limit target sum s .search)
   unfolding find-max-weight answer

@@ -14,6 +14,7 @@ use Rattle.rules.specs.Columns.{Link, linkList, zip-links}
 use Rattle.rules.specs.Refusals.{BuildCall, ascending}
 use Rattle.rules.specs.Graph.{joins}
 use Rattle.rules.specs.Build.{went, link-arc, from-links, raws, Building, rank-steps, contraction}
+use Rattle.rules.proofs.Arcs.{joined-ends}
 use Rattle.rules.proofs.Ranges.{distinct-decides}
 use Rattle.rules.proofs.Cases.{on-test}
 use Rattle.rules.proofs.Steps.{both-went}
@@ -23,7 +24,7 @@ use Rattle.rules.proofs.Pigeonhole.{every-below}
 use Rattle.routes.specs.Paths.{Path}
 use Rattle.routes.specs.Demand.{Linked}
 use Rattle.routes.proofs.Paths.{Lighter, lighter-path}
-use Rattle.routes.proofs.Graphs.{Arcs, joined-ends}
+use Rattle.routes.proofs.Graphs.{Arcs}
 use Rattle.routes.proofs.Contraction.{pool-held}
 use Rattle.routes.proofs.Levels.{Apart, rank-of, GraphOk}
 use Rattle.routes.proofs.Runs.{RunOk, Fit, levels-fit, LevelUpDown, up-down}

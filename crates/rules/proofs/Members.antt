@@ -5,7 +5,9 @@ use mathlib.Core.Bool.{Bool, true, false, false≢true}
 use mathlib.Core.List.{List, [], _∷_, map, List·Memᴰ·head, List·Memᴰ·tail, List·Memᴰ·cases-cons, List·Memᴰ·not-nil}
 use Prim.Native.Nat.{ℕ, zero, suc, _<_}
 use native.Mathlib.Omega.{arith}
+use lib.Dec.{eqb}
 use lib.ListN.{length, getD}
+use borrow.Author.Tests.{eqb-true}
 use Rattle.rules.specs.Lists.{In, all, any, keep}
 use Rattle.rules.proofs.Cases.{on-test, neither}
 use Rattle.rules.proofs.Decides.{and-both, or-either, left-or, right-or}
@@ -74,7 +76,15 @@ module _ {A : Type 0} where
         | inr later ↦ let w = any-in p ys later in (w .0, List·Memᴰ·tail (w .1), w .2)
       ]
 
+-- of a number: it is the one that stands there
+pub any-same : (u : ℕ) (xs : List ℕ) → any (eqb u) xs ≡ true → In u xs
+any-same u xs e = let w = any-in (eqb u) xs e in rw (eqb-true u (w .0) (w .2)) (w .1)
+
 module _ {A : Type 0} where
+  -- what is not the first stands behind it
+  pub in-rest : (x y : A) (xs : List A) → In x (y ∷ xs) → (x ≡ y → ⊥) → In x xs
+  in-rest x y xs m differ = elim (List·Memᴰ·cases-cons m) [ inl here ↦ absurd (differ here) | inr later ↦ later ]
+
   pub getD-in : (xs : List A) (k : ℕ) (d : A) → k < length xs → In (getD xs k d) xs
   getD-in [] k d h = absurd (omega arith)
   getD-in (x ∷ xs) zero d h = List·Memᴰ·head refl

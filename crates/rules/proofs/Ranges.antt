@@ -1,16 +1,17 @@
 -- Tests of all numbers of a range, and of all elements of a list.
 use mathlib.Core.Path.{_≡_, refl, sym, ap}
-use mathlib.Core.Logic.{inl, inr}
-use mathlib.Core.Bool.{Bool, true, false, not, false≢true}
+use mathlib.Core.Bool.{Bool, true, false, not}
 use mathlib.Core.List.{List, [], _∷_}
 use Prim.Native.Nat.{ℕ, zero, suc, _+_, _-_, _≤_, _<_}
 use native.Mathlib.Omega.{arith}
 use native.Mathlib.Decide.{ℕ-discrete}
 use lib.Dec.{eqb}
 use lib.ListN.{length, getD}
-use borrow.Author.Tests.{eqb-true, eq-eqb}
+use borrow.Author.Tests.{eq-eqb, not-true}
 use Rattle.rules.specs.Lists.{all, any, distinct, range, count-from}
-use Rattle.rules.proofs.Decides.{Decides, and-both, both-and, or-either, left-or, right-or}
+use Rattle.rules.proofs.Cases.{not-both}
+use Rattle.rules.proofs.Members.{in-any, any-same, getD-in, in-getD}
+use Rattle.rules.proofs.Decides.{Decides, and-both, both-and}
 
 module _ (p : ℕ → Bool) where
   counted-each : (a n : ℕ) → all p (count-from a n) ≡ true → (k : ℕ) → a ≤ k → k < a + n → p k ≡ true
@@ -47,23 +48,10 @@ all-decides p P a b d = (
 
 -- No element of a distinct list stands at two places.
 any-at : (x : ℕ) (xs : List ℕ) (k d : ℕ) → k < length xs → getD xs k d ≡ x → any (eqb x) xs ≡ true
-unfolding any
-any-at x [] k d h e = absurd (omega arith)
-any-at x (y ∷ ys) zero d h e = left-or (eqb x y) (any (eqb x) ys) (eq-eqb x y (sym e))
-any-at x (y ∷ ys) (suc k) d h e = right-or (eqb x y) (any (eqb x) ys) (any-at x ys k d (omega arith) e)
+any-at x xs k d h e = in-any (eqb x) xs (getD xs k d) (getD-in xs k d h) (eq-eqb x (getD xs k d) (sym e))
 
 any-where : (x : ℕ) (xs : List ℕ) (d : ℕ) → any (eqb x) xs ≡ true → (k : ℕ) × (k < length xs) × (getD xs k d ≡ x)
-unfolding any
-any-where x [] d e = absurd (false≢true e)
-any-where x (y ∷ ys) d e =
-    elim (or-either (eqb x y) (any (eqb x) ys) e) [
-      | inl here ↦ (0, omega arith, sym (eqb-true x y here))
-      | inr later ↦ let w = any-where x ys d later in (suc (w .0), omega (arith, w .1), w .2)
-    ]
-
-not-false : (b : Bool) → not b ≡ true → b ≡ true → ⊥
-not-false true p q = false≢true p
-not-false false p q = false≢true q
+any-where x xs d e = in-getD x xs d (any-same x xs e)
 
 not-of : (b : Bool) → (b ≡ true → ⊥) → not b ≡ true
 not-of true f = absurd (f refl)
@@ -78,9 +66,9 @@ unfolding distinct
 distinct-differ [] d e i j hi hj same = absurd (omega arith)
 distinct-differ (x ∷ xs) d e zero zero hi hj same = refl
 distinct-differ (x ∷ xs) d e zero (suc j) hi hj same =
-    absurd (not-false (any (eqb x) xs) (and-both (not (any (eqb x) xs)) (distinct xs) e .0) (any-at x xs j d (omega arith) (sym same)))
+    absurd (not-both (any (eqb x) xs) (any-at x xs j d (omega arith) (sym same)) (not-true _ (and-both (not (any (eqb x) xs)) (distinct xs) e .0)))
 distinct-differ (x ∷ xs) d e (suc i) zero hi hj same =
-    absurd (not-false (any (eqb x) xs) (and-both (not (any (eqb x) xs)) (distinct xs) e .0) (any-at x xs i d (omega arith) same))
+    absurd (not-both (any (eqb x) xs) (any-at x xs i d (omega arith) same) (not-true _ (and-both (not (any (eqb x) xs)) (distinct xs) e .0)))
 distinct-differ (x ∷ xs) d e (suc i) (suc j) hi hj same =
     ap suc (distinct-differ xs d (and-both (not (any (eqb x) xs)) (distinct xs) e .1) i j (omega arith) (omega arith) same)
 

@@ -1,8 +1,7 @@
 -- What the proofs share, and what a caller may cite: `Laws` first.
 pub mod Labels
-pub mod Balance
 pub mod Turns
-pub mod Chains
+pub mod Crossing
 pub mod Offers
 pub mod Rows
 pub mod Nodes

@@ -6,7 +6,7 @@ use Prim.Native.Nat.{ℕ, _+_, _*_, _-_, _^_, _<_, _≤_}
 use native.Mathlib.Omega.{arith}
 use lib.Dec.{eqb, ltb}
 use lib.ListN.{length, drop}
-use borrow.Author.Tests.{lt-ltb, le-ltb, eq-eqb, ne-eqb}
+use borrow.Author.Tests.{lt-ltb, le-ltb, eq-eqb}
 use Rattle.rules.specs.Heap.{Item, push}
 use Rattle.rules.specs.Graph.{Arc}
 use Rattle.rules.specs.Search.{Search, init, offer, relax, with-heap, mark-settled}
@@ -19,7 +19,7 @@ use Rattle.search.specs.Labels.{label-at, Stamped, Reached, put-label, p
 use Rattle.search.specs.Turns.{cross}
 use Rattle.search.specs.Searching.{Searching}
 use Rattle.search.proofs.Labels.{labelled-put, reached-put, reached-new, labelled-settled, reached-settled, labelled-none}
-use Rattle.search.proofs.Balance.{relax-cross}
+use Rattle.search.proofs.Crossing.{relax-cross}
 
 module _ {n base len : ℕ} {labels heap : List ℕ} {s : Search} (x : Searching n labels heap base len s) where
   pub label-room : (v : ℕ) → v < n → 2 * (v + 1) ≤ length labels
@@ -74,10 +74,6 @@ module _ {n base len : ℕ} {labels heap : List ℕ} {s : Search} (x : Searching
   -- a heap is as long as its items
   pub size : length (s .heap) ≡ len
   size = holds-size heap len (s .heap) (x .holds)
-
-pub cross-offer : (avoid : ℕ) (i : Item) (s : Search) → (i .node ≡ avoid → ⊥) → cross avoid i s ≡ offer i s
-unfolding cross
-cross-offer avoid i s e = rw (ne-eqb (i .node) avoid e, cross)
 
 -- a search can be marked before it relaxes or after
 module _ (v : ℕ) where

@@ -5,17 +5,16 @@ use Prim.Native.Nat.{ℕ, _+_, _*_, _<_}
 use native.Mathlib.Omega.{arith}
 use lib.ListN.{length, getD}
 use Rattle.rules.specs.Numbers.{invalid}
-use Rattle.rules.specs.Lists.{In}
 use Rattle.rules.specs.Heap.{Item}
 use Rattle.rules.specs.Search.{Search, relax}
 use Rattle.heap.specs.Items.{pair}
 use Rattle.graph.specs.Memory.{memory, arc-at, Chain}
 use Rattle.graph.specs.Walks.{steps}
+use Rattle.graph.proofs.Chains.{Valid, chain-first, chain-empty, chain-steps}
 use Rattle.search.specs.Turns.{cross}
 use Rattle.search.specs.Searching.{Searching}
 use Rattle.search.specs.Promises.{Offering, Crossed, Row, Usable, Relaxing}
-use Rattle.search.proofs.Balance.{relax-cross, cross-grows}
-use Rattle.search.proofs.Chains.{chain-first, chain-ended, chain-steps}
+use Rattle.search.proofs.Crossing.{relax-cross, cross-grows}
 use Rattle.search.proofs.Offers.{label-room, size}
 
 abbrev pub row : ℕ → List ℕ → Row
@@ -33,7 +32,7 @@ relaxes arcs weights avoid weight l s = relax avoid weight (map (arc-at (memory 
 
 module _ {arcs weights labels heap : List ℕ} {base len place weight : ℕ} {r : Row} {s : Search}
     (x : Relaxing arcs weights labels heap base len place weight r s) where
-  never-ends : (i : ℕ) → In i (r .places) → i ≡ invalid → ⊥
+  never-ends : Valid (r .places)
   never-ends i m e = omega (arith, x .usable i m .valid)
 
   walk-length : steps (link arcs) (length weights) place ≡ length (r .places)
@@ -111,5 +110,5 @@ module _ {arcs weights labels heap : List ℕ} {base avoid len place weight : �
   pub rest-done : place ≡ invalid → Searching (r .n) labels heap base len (relaxes arcs weights avoid weight (r .places) s)
   unfolding relax
   rest-done e =
-      rw (← x .same, chain-ended (link arcs) (x .places) place (never-ends (x .relaxing)) (x .relaxing .chain) e)
+      rw (← x .same, chain-empty (link arcs) (x .places) place (never-ends (x .relaxing)) (x .relaxing .chain) e)
       (x .relaxing .searching)

@@ -5,14 +5,13 @@ use Prim.Native.Nat.{ℕ, suc, _+_, _-_, _<_, _≤_}
 use native.Mathlib.Omega.{arith}
 use lib.ListN.{length}
 use Rattle.rules.specs.Search.{Search, run, search-fuel}
-use Rattle.routes.proofs.SearchBounds.{left, search-fuel-enough}
+use Rattle.routes.proofs.SearchBounds.{left, paid-most, search-fuel-enough}
+use Rattle.graph.proofs.Standing.{within-pool}
 use Rattle.search.specs.declared.witness_search.Progress.{Progress}
 use Rattle.search.specs.Turns.{Turn, turn}
 use Rattle.search.specs.Searching.{World, Lent}
 use Rattle.search.specs.Promises.{Asked, Turned, Ran}
-use Rattle.search.proofs.Balance.{paid-most}
 use Rattle.search.proofs.Turns.{turn-less, run-turn, same-fuel}
-use Rattle.search.proofs.Nodes.{graph-many}
 
 -- no more can leave than `most`, and what is to come is what came from s
 pub record Onward (m : Lent) (base avoid len count target sum limit most : ℕ) (w : World) (s : Search) : Type 0 where
@@ -27,7 +26,7 @@ pub onward-all : {m : Lent} {base len count target sum : ℕ} {w : World} {s : S
 onward-all {m} {base} {len} {count} {target} {sum} {w} {s} avoid limit x =
     let r = x .ready in
     let few : left (w .graph) avoid s ≤ length (m .weights) + 1 =
-    omega (arith, r .paid, paid-most (s .settled) (w .graph), graph-many (r .standing), r .standing .stands .weights-room)
+    omega (arith, r .paid, paid-most (s .settled) (w .graph), within-pool (r .standing .stands), r .standing .stands .weights-room)
     in
     record {
       search = s;

@@ -9,18 +9,18 @@ use lib.ListN.{length, drop}
 use borrow.Author.Tests.{lt-ltb, le-ltb, lt-leb, le-leb}
 use Rattle.rules.specs.Heap.{Item}
 use Rattle.rules.specs.Search.{Search, with-heap, reached}
+use Rattle.routes.proofs.SearchBounds.{passed-paid, settle-paid, settle-room, settle-count}
 use Rattle.heap.specs.Items.{item}
 use Rattle.heap.specs.Promises.{Popped}
 use Rattle.heap.proofs.Laws.{holds-first}
+use Rattle.graph.proofs.Standing.{within-pool}
 use Rattle.search.specs.declared.witness_search.Progress.{Progress}
 use Rattle.search.specs.Labels.{label-at, settled-at, Reached}
 use Rattle.search.specs.Turns.{Turn, stop, turn}
 use Rattle.search.specs.Searching.{Searching, World, Lent, with-slices}
 use Rattle.search.specs.Promises.{Settling, Settled, Asked, Taking, Taken, Turned}
-use Rattle.search.proofs.Balance.{passed-paid, settle-paid, settle-room, settle-count}
 use Rattle.search.proofs.Turns.{entry-passed, entry-settled, turn-empty, turn-limited, turn-heavy, turn-takes}
 use Rattle.search.proofs.Offers.{passed, size, head-leaves}
-use Rattle.search.proofs.Nodes.{graph-many}
 
 abbrev pub progress : ℕ → ℕ → Bool → Progress
 progress len settled on = record { len = len; settled = settled; on = on }
@@ -86,8 +86,8 @@ module _ {m : Lent} {base len count target sum : ℕ} {w : World} {s : Search} (
                 p .long,
                 size searching,
                 ap length leaves,
-                graph-many (r .standing),
-                settle-room (w .graph) 0 i left-heap s leaves (r .paid) open-node,
+                within-pool (r .standing .stands),
+                settle-room (w .graph) 0 i left-heap s leaves open-node (r .paid),
               );
         }
 
@@ -107,8 +107,8 @@ module _ {m : Lent} {base len count target sum : ℕ} {w : World} {s : Search} (
                 standing = r .standing;
                 searching = y;
                 counted =
-                    settle-count (w .graph) avoid i left-heap s leaves (r .paid) open-node ∙ omega (arith, r .counted);
-                paid = settle-paid (w .graph) avoid i left-heap s leaves (r .paid) open-node;
+                    settle-count (w .graph) avoid i left-heap s leaves open-node ∙ omega (arith, r .counted);
+                paid = settle-paid (w .graph) avoid i left-heap s leaves open-node (r .paid);
                 room = omega (arith, r .room, p .long, long);
               });
         }

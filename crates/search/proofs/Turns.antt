@@ -10,9 +10,8 @@ use Rattle.rules.specs.Heap.{Item}
 use Rattle.rules.specs.Graph.{Arc}
 use Rattle.rules.specs.Search.{Search, with-heap, settle, reached, run}
 use Rattle.rules.proofs.Cases.{on-test}
-use Rattle.routes.proofs.SearchBounds.{Paid, left, run-enough}
+use Rattle.routes.proofs.SearchBounds.{Paid, left, passed-paid, passed-left, settle-paid, settle-left, run-enough}
 use Rattle.search.specs.Turns.{Turn, stop, entry, take-from, take, turn-from, turn}
-use Rattle.search.proofs.Balance.{passed-paid, passed-left, settle-paid, settle-left}
 
 module _ (g : List Arc) (avoid target sum : ℕ) where
   -- what a turn of a heap that begins with i says, by its tests
@@ -63,8 +62,8 @@ module _ (g : List Arc) (avoid target sum : ℕ) where
   unfolding entry
   entry-less s i q e p =
       on-test (s .settled (i .node))
-      (λ t. rw (t, entry) (record { paid = passed-paid g avoid i q s e p; fewer = λ _. passed-left g avoid i q s e p }))
-      (λ t. rw (t, entry) (record { paid = settle-paid g avoid i q s e p t; fewer = λ _. settle-left g avoid i q s e p t }))
+      (λ t. rw (t, entry) (record { paid = passed-paid g avoid i q s e p; fewer = λ _. passed-left g avoid i q s e }))
+      (λ t. rw (t, entry) (record { paid = settle-paid g avoid i q s e t p; fewer = λ _. settle-left g avoid i q s e t }))
 
   -- `run` with fuel is a turn, and `run` with less
   abbrev pub after : ℕ → ℕ → Turn → Search

@@ -6,7 +6,7 @@ use native.Mathlib.Omega.{arith}
 use Rattle.rules.specs.Graph.{Arc}
 use Rattle.graph.specs.declared.preparation_graph.Pool.{Pool}
 use Rattle.graph.specs.Memory.{Memory}
-use Rattle.graph.specs.Promises.{Takes, Ready}
+use Rattle.graph.specs.Promises.{Takes, Addable}
 use Rattle.graph.proofs.Answering.{answers-came, answers-full}
 use Rattle.graph.proofs.Standing.{takes, freed-below, stands-reused, stands-fresh, pool-full}
 use borrow.Author.Needs.{needs}
@@ -16,8 +16,8 @@ use Rattle.graph.proofs.preparation_graph.add_edge_or_shortcut.Reads as
 use Rattle.graph.proofs.preparation_graph.add_edge_or_shortcut.Lts as lts
 use Rattle.graph.proofs.preparation_graph.put_arc.Reads as put-arc-reads
 
-ready-takes : {n pool p : ℕ} {m : Memory} {w : List ℕ} {state : Pool} {a : Arc} {g : List Arc} → Ready n pool m w state a g → p < pool → Takes m w p a
-ready-takes r below = takes (r .stands .placed) _ (r .stands .weights-room) _ below _ (r .tail-in) (r .head-in)
+addable-takes : {n pool p : ℕ} {m : Memory} {w : List ℕ} {state : Pool} {a : Arc} {g : List Arc} → Addable n pool m w state a g → p < pool → Takes m w p a
+addable-takes r below = takes (r .stands .placed) _ (r .stands .weights-room) _ below _ (r .tail-in) (r .head-in)
 
 cast-rest : tie.Need-cast-rest
 cast-rest c = search needs
@@ -41,7 +41,7 @@ put-arc-requires : tie.Need-put-arc-requires
 put-arc-requires c κs =
     let s = c .before .before .before .before .before .before .before .before in
     let r = s .pre .2 in
-    ready-takes r (freed-below (r .stands .placed) (c .before .before .before .before .if1 .taken))
+    addable-takes r (freed-below (r .stands .placed) (c .before .before .before .before .if1 .taken))
 
 same-length : tie.Need-same-length
 same-length c = search needs
@@ -58,7 +58,7 @@ returns c n g r =
     answers-came (rw (put .ensures .0, put .ensures .1) (stands-reused (r .stands) _ (r .tail-in) (r .head-in) (c .before .before .before .before .before .before .before .before .before .before .before .if1 .taken)))
 
 put-arc-requires-2 : tie.Need-put-arc-requires-2
-put-arc-requires-2 c κs = ready-takes (c .before .before .before .before .before .before .before .before .pre .2) (c .before .before .before .if2 .taken)
+put-arc-requires-2 c κs = addable-takes (c .before .before .before .before .before .before .before .before .pre .2) (c .before .before .before .if2 .taken)
 
 add-t35 : tie.Need-add-t35
 add-t35 c = search needs

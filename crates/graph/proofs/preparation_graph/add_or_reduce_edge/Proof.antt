@@ -1,5 +1,5 @@
 -- `add_or_reduce_edge` meets its contract: where nothing was reduced the slices are as they were, and an arc is added.
-use Rattle.graph.proofs.Answering.{answers-came, still-ready, answers-after}
+use Rattle.graph.proofs.Answering.{answers-came, still-addable, answers-after}
 use borrow.Author.Needs.{needs}
 use Rattle.graph.proofs.preparation_graph.add_or_reduce_edge.Statement.{statement}
 use Rattle.graph.proofs.preparation_graph.add_or_reduce_edge.Tie as tie
@@ -31,7 +31,7 @@ add-edge-or-shortcut-requires c κs =
     let s = c .before .before .before .before .before .before .before .before .before .before .before .before .before .before .before in
     let k = s .pre in
     let reduced = c .before .before .before .before .before .before .before .before .reduce-edge .ensures (k .0) (s .args .pool) (s .args .state) (k .1) (k .2) in
-    (k .0, k .1, still-ready (reduced .same (c .before .before .before .if1 .left)) (k .2))
+    (k .0, k .1, still-addable (reduced .same (c .before .before .before .if1 .left)) (k .2))
 
 same-length-4 : tie.Need-same-length-4
 same-length-4 c = search needs
@@ -47,7 +47,7 @@ returns-2 c n g r =
     let a = c .before .before .before .before .before .before .before .before .before .before .before .before .before .before .before .before .before .before .before .before .before .before .args in
     let reduced = c .before .before .before .before .before .before .before .before .before .before .before .before .before .before .before .reduce-edge .ensures n (a .pool) (a .state) g r in
     let none = c .before .before .before .before .before .before .before .before .before .before .if1 .left in
-    answers-after (reduced .same none) (reduced .added none) (c .before .before .before .before .before .before .add-edge-or-shortcut .ensures n g (still-ready (reduced .same none) r))
+    answers-after (reduced .same none) (reduced .added none) (c .before .before .before .before .before .before .add-edge-or-shortcut .ensures n g (still-addable (reduced .same none) r))
 
 pub add-or-reduce-edge-spec : {M : Type 1} → statement M
 add-or-reduce-edge-spec =

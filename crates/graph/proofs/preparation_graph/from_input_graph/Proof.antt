@@ -11,7 +11,7 @@ use Rattle.graph.specs.Given.{links}
 use Rattle.graph.specs.Memory.{memory}
 use Rattle.graph.specs.Stands.{Stands}
 use Rattle.graph.specs.Promises.{Between}
-use Rattle.graph.proofs.LinksIn.{next-ready, next-came, next-full, all-came}
+use Rattle.graph.proofs.LinksIn.{next-addable, next-came, next-full, all-came}
 use Rattle.graph.proofs.preparation_graph.from_input_graph.Statement.{statement}
 use Rattle.graph.proofs.preparation_graph.from_input_graph.Tie as tie
 use Rattle.graph.proofs.preparation_graph.from_input_graph.Reads as reads
@@ -61,7 +61,7 @@ cast-add-edge-or-shortcut c = omega (arith, c .shared-slice-known6 .given (c .be
 add-edge-or-shortcut-requires : tie.Need-add-edge-or-shortcut-requires Inv-loop μ-loop
 add-edge-or-shortcut-requires c κs =
     let loop = c .before .before .before .before .before .before .before .loop in
-    (_, _, next-ready _ _ _ (loop .inv .1) (loop .i) (loop .inv .5) (c .before .before .before .before .before .before .loop-test .taken))
+    (_, _, next-addable _ _ _ (loop .inv .1) (loop .i) (loop .inv .5) (c .before .before .before .before .before .before .loop-test .taken))
 
 enum-known-added : tie.Need-enum-known-added Inv-loop μ-loop
 enum-known-added c = search needs
@@ -84,7 +84,7 @@ returns c =
     let b = loop .inv .1 in
     let below = c .before .before .before .before .before .before .before .before .before .before .before .before .before .before .before .loop-test .taken in
     next-full _ _ _ b (loop .i) (loop .inv .5) below
-    (c .before .before .before .before .before .before .before .before .add-edge-or-shortcut .ensures _ _ (next-ready _ _ _ b (loop .i) (loop .inv .5) below))
+    (c .before .before .before .before .before .before .before .before .add-edge-or-shortcut .ensures _ _ (next-addable _ _ _ b (loop .i) (loop .inv .5) below))
     (c .enum-told .given .1)
 
 add-i : tie.Need-add-i Inv-loop μ-loop
@@ -104,7 +104,7 @@ loop-again c =
       search needs,
       search needs,
       next-came _ _ _ b (loop .i) (loop .inv .5) below
-          (c .before .before .before .before .before .before .before .before .before .add-edge-or-shortcut .ensures _ _ (next-ready _ _ _ b (loop .i) (loop .inv .5) below))
+          (c .before .before .before .before .before .before .before .before .before .add-edge-or-shortcut .ensures _ _ (next-addable _ _ _ b (loop .i) (loop .inv .5) below))
           _
           (c .before .added .given .1),
     )

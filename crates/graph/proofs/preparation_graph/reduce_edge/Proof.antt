@@ -7,7 +7,7 @@ use lib.ListN.{length}
 use Rattle.rules.specs.Graph.{Arc}
 use Rattle.graph.specs.declared.preparation_graph.Pool.{Pool}
 use Rattle.graph.specs.Memory.{memory}
-use Rattle.graph.specs.Promises.{arc, Ready}
+use Rattle.graph.specs.Promises.{arc, Addable}
 use Rattle.graph.proofs.Reading.{outs-walk}
 use Rattle.graph.proofs.Reducing.{place, place-room, reduces-none, reduces-not, reduces-it}
 use borrow.Author.Needs.{needs}
@@ -34,7 +34,7 @@ find-arc-requires c κs =
 -- of any graph that stands, what was found
 found-place : (c : tie.After-find-arc) {n pool : ℕ} {state : Pool} {g : List Arc} →
     let a = c .before .before .before .before .before .before .args in
-    (r : Ready n pool (memory (a .arcs .now) (a .nodes .now)) (a .weights .now) state (arc (a .tail) (a .head) (a .weight) (a .centre)) g) →
+    (r : Addable n pool (memory (a .arcs .now) (a .nodes .now)) (a .weights .now) state (arc (a .tail) (a .head) (a .weight) (a .centre)) g) →
     c .find-arc .result ≡ place (r .stands) (arc (a .tail) (a .head) (a .weight) (a .centre))
 found-place c r = c .find-arc .ensures _ (outs-walk (r .stands) _ (r .tail-in))
 

@@ -6,8 +6,8 @@ use native.Mathlib.Omega.{arith}
 use lib.ListN.{length}
 use Rattle.graph.specs.Memory.{memory, first}
 use Rattle.graph.specs.Walks.{column, steps}
-use Rattle.graph.specs.Promises.{Some}
-use Rattle.graph.proofs.Removing.{Fewer, fewer-not, fewer-on, fewer-all, fewer-some, removed-nearer}
+use Rattle.graph.specs.Promises.{HoldsSome}
+use Rattle.graph.proofs.Removing.{Fewer, fewer-not, fewer-on, fewer-all, fewer-holds, removed-nearer}
 use Rattle.graph.proofs.preparation_graph.remove_side.Statement.{statement}
 use Rattle.graph.proofs.preparation_graph.remove_side.Tie as tie
 use Rattle.graph.proofs.preparation_graph.remove_side.Reads as reads
@@ -28,8 +28,8 @@ loop-holds c = let a = c .before .before .args in (refl, refl, fewer-not (a .sid
 -- the graph that the caller knows of, as it is now
 now-some : (c : tie.At-loop Inv-loop μ-loop) →
     let a = c .before .before .before .args in
-    Some (memory (c .loop .arcs) (c .loop .nodes)) (c .loop .freed) (a .node)
-now-some c = let s = c .before .before .before in fewer-some (s .args .side) (s .args .node) (c .loop .inv .2) (s .pre .1)
+    HoldsSome (memory (c .loop .arcs) (c .loop .nodes)) (c .loop .freed) (a .node)
+now-some c = let s = c .before .before .before in fewer-holds (s .args .side) (s .args .node) (c .loop .inv .2) (s .pre .1)
 
 room : (c : tie.At-loop Inv-loop μ-loop) → 4 * c .before .before .before .args .node + 4 ≤ length (c .loop .nodes)
 room c = let k = now-some c in omega (arith, k .inside, k .stands .placed .nodes-room)

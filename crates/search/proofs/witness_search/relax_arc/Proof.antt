@@ -1,7 +1,8 @@
 -- `relax_arc` meets its contract: `cross`, by its test.
 use borrow.Author.Needs.{needs}
 use Rattle.heap.specs.Items.{pair}
-use Rattle.search.proofs.Offers.{crossed-not, cross-offer}
+use Rattle.search.proofs.Crossing.{cross-offer}
+use Rattle.search.proofs.Offers.{crossed-not}
 use Rattle.search.proofs.witness_search.relax_arc.Statement.{statement}
 use Rattle.search.proofs.witness_search.relax_arc.Tie as tie
 

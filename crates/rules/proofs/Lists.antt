@@ -1,18 +1,17 @@
 -- Laws of lists: what is kept, what is mapped, and distinct numbers.
 use mathlib.Core.Path.{_≡_, refl, sym, ap, _∙_}
-use mathlib.Core.Logic.{_⊎_, inl, inr}
-use mathlib.Core.Bool.{Bool, true, false, not, _&&_, true≢false, false≢true}
+use mathlib.Core.Logic.{inl, inr}
+use mathlib.Core.Bool.{Bool, true, false, not, _&&_, true≢false}
 use mathlib.Core.List.{List, [], _∷_, _++_, map, append-nil, List·Memᴰ·head, List·Memᴰ·tail, List·Memᴰ·cases-cons, List·Memᴰ·not-nil, List·Memᴰ·append-cases, Memᴰ·append-left, Memᴰ·append-right}
-use Prim.Native.Nat.{ℕ, suc, _+_, _≤_, _<_}
+use Prim.Native.Nat.{ℕ, suc, _+_, _≤_}
 use native.Mathlib.Omega.{arith}
 use lib.Dec.{eqb}
 use lib.ListN.{length}
-use borrow.Author.Tests.{eqb-true, eqb-false, eq-eqb, ne-eqb, not-true}
+use borrow.Author.Tests.{eq-eqb, ne-eqb, not-true}
 use Rattle.rules.specs.Lists.{In, any, keep, distinct}
 use Rattle.rules.proofs.Cases.{on-test}
-use Rattle.rules.proofs.Decides.{and-both, both-and}
-use Rattle.rules.proofs.Members.{in-keep, keep-in, in-any}
-use Rattle.rules.proofs.Pigeonhole.{any-same}
+use Rattle.rules.proofs.Decides.{and-both}
+use Rattle.rules.proofs.Members.{in-keep, in-any, any-same}
 
 module _ {A : Type 0} where
   pub keep-same : (p q : A → Bool) (l : List A) → ((x : A) → In x l → p x ≡ q x) → keep p l ≡ keep q l
