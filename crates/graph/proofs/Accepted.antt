@@ -6,12 +6,11 @@ use Prim.Native.Nat.{ℕ, zero, suc, _<_}
 use native.Mathlib.Omega.{arith}
 use lib.Dec.{eqb, ltb, leb}
 use lib.ListN.{length, getD}
-use borrow.Author.Tests.{eqb-true, ltb-true}
+use borrow.Author.Tests.{eqb-true, ltb-true, not-false}
 use Rattle.rules.specs.Numbers.{maxLinks}
 use Rattle.rules.specs.Lists.{all}
 use Rattle.rules.specs.Columns.{zip-links, linkList}
 use Rattle.rules.specs.Refusals.{names-none-above, columns-fit, graph-rows, graph-refusal}
-use Rattle.rules.proofs.Cases.{not-not}
 use Rattle.rules.proofs.Decides.{and-both}
 use Rattle.rules.proofs.Rows.{not-met}
 use Rattle.graph.specs.Given.{links, Even}
@@ -44,6 +43,6 @@ accepted-between n ts hs ws e =
     let r1 = not-met 0 _ _ e in
     let r2 = not-met 1 _ _ (r1 .1) in
     let r3 = not-met 2 _ _ (r2 .1) in
-    let even = fit-even ts hs ws (not-not (columns-fit (links ts hs ws)) (r2 .0)) in
-    let ends = ends-below n ts hs ws (even .heads) (even .weights) (not-not (all (names-none-above n) (zip-links ts hs ws)) (r3 .0)) in
+    let even = fit-even ts hs ws (not-false (columns-fit (links ts hs ws)) (r2 .0)) in
+    let ends = ends-below n ts hs ws (even .heads) (even .weights) (not-false (all (names-none-above n) (zip-links ts hs ws)) (r3 .0)) in
     record { even = even; tails = λ i h. ends i h .0; heads = λ i h. ends i h .1 }

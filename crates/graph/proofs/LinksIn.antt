@@ -9,7 +9,7 @@ use lib.Seq.{take-suc, take-all, drop-cons}
 use Rattle.rules.specs.Numbers.{invalid}
 use Rattle.rules.specs.Columns.{Link, linkList}
 use Rattle.rules.specs.Graph.{Arc}
-use Rattle.rules.specs.Build.{link-arc}
+use Rattle.rules.specs.Build.{link-arc, graph-of}
 use Rattle.graph.specs.Given.{link, links, Even}
 use Rattle.graph.specs.declared.preparation_graph.Pool.{Pool}
 use Rattle.graph.specs.declared.preparation_graph.Added.{Added}
@@ -39,10 +39,10 @@ module _ (ts hs ws : List ℕ) (even : Even ts hs ws) where
       map-append link-arc (take i (linkList (links ts hs ws))) _ ∙
       ap (λ l. so-far i ++ (link-arc l ∷ [])) (link-at i h))
 
-  pub all-links : (i : ℕ) → length ts ≤ i → so-far i ≡ map link-arc (linkList (links ts hs ws))
+  pub all-links : (i : ℕ) → length ts ≤ i → so-far i ≡ graph-of (links ts hs ws)
   all-links i h = ap (map link-arc) (take-all i (linkList (links ts hs ws)) (omega (arith, link-count ts hs ws even)))
 
-  pub no-longer : (i : ℕ) → length (so-far i) ≤ length (map link-arc (linkList (links ts hs ws)))
+  pub no-longer : (i : ℕ) → length (so-far i) ≤ length (graph-of (links ts hs ws))
   no-longer i =
       omega (
         arith,
@@ -50,6 +50,10 @@ module _ (ts hs ws : List ℕ) (even : Even ts hs ws) where
         length-map (linkList (links ts hs ws)) link-arc,
         length-take i (linkList (links ts hs ws)),
       )
+
+  -- a pool with a place for each link takes them all
+  pub never-full : {pool : ℕ} → length ts ≤ pool → pool < length (graph-of (links ts hs ws)) → ⊥
+  never-full enough more = omega (arith, length-map (linkList (links ts hs ws)) link-arc, link-count ts hs ws even)
 
 -- A walk over the links: the slices hold the first i of them.
 module _ {n pool : ℕ} {m : Memory} {w : List ℕ} {state : Pool} (ts hs ws : List ℕ) (b : Between n ts hs ws) (i : ℕ)
@@ -65,14 +69,14 @@ module _ {n pool : ℕ} {m : Memory} {w : List ℕ} {state : Pool} (ts hs ws : L
     pub next-came : (next : Pool) → r ≡ Came next → Stands n pool m′ w′ next (so-far ts hs ws (b .even) (i + 1))
     next-came next e = rw (one-more ts hs ws (b .even) i h) at (answers .came next e)
 
-    pub next-full : r ≡ Full → Holds n pool m′ w′ (map link-arc (linkList (links ts hs ws))) Full
+    pub next-full : r ≡ Full → Holds n pool m′ w′ (graph-of (links ts hs ws)) Full
     next-full e =
         record {
           came = λ next f. absurd (let z : _≡_ {A = ℕ} 0 1 = cc in omega arith);
           full = λ _. omega (arith, answers .full e, ap length (one-more ts hs ws (b .even) i h), no-longer ts hs ws (b .even) (i + 1));
         }
 
-  pub all-came : length ts ≤ i → Holds n pool m w (map link-arc (linkList (links ts hs ws))) (Came state)
+  pub all-came : length ts ≤ i → Holds n pool m w (graph-of (links ts hs ws)) (Came state)
   all-came h =
       record {
         came = λ next e. let same : state ≡ next = cc in rw (← same, ← (all-links ts hs ws (b .even) i h)) stands;

@@ -19,9 +19,7 @@ ghost use Rattle.graph.specs.Memory.{memory, first, last};
 ghost use Rattle.graph.specs.Stands.{Stands};
 ghost use Rattle.graph.specs.Steps.{follow as followed, append as appended, unlink as unlinked, write, put};
 ghost use Rattle.graph.specs.Walks.{column, Walk, before as before-in, found};
-ghost use mathlib.Core.List.{map};
-ghost use Rattle.rules.specs.Columns.{linkList};
-ghost use Rattle.rules.specs.Build.{link-arc};
+ghost use Rattle.rules.specs.Build.{graph-of};
 ghost use Rattle.graph.specs.Given.{links};
 ghost use Rattle.graph.specs.Promises.{Spacious, Between, Holds, arc, state-of, Room, Open, Takes, Addable, HoldsSome, Answers, Reduces, Drops, Clears};
 
@@ -312,7 +310,7 @@ pub fn from_input_graph(
 ) -> Added
     requires { ⌜ Spacious n pool (memory (now arcs) (now nodes)) (now weights) × Between n (now tails) (now heads) (now «link_weights») ⌝ }
     ensures { λ r. ⌜ Holds n pool (memory (now (arcs .exit)) (now (nodes .exit))) (now (weights .exit))
-        (map link-arc (linkList (links (now (tails .entry)) (now (heads .entry)) (now («link_weights» .entry))))) r ⌝ }
+        (graph-of (links (now (tails .entry)) (now (heads .entry)) (now («link_weights» .entry)))) r ⌝ }
 {
     let mut state = clear(nodes, n);
     let mut i = 0;

@@ -6,22 +6,17 @@ use Prim.Native.Nat.{ℕ, suc, _+_, _<_, _≤_}
 use native.Mathlib.Numerals.{add-one}
 use native.Mathlib.Omega.{arith}
 use lib.Dec.{eqb, ltb}
-use lib.ListN.{length, set, length-map}
+use lib.ListN.{length, set}
 use borrow.Author.Tests.{eq-eqb, ne-eqb, lt-ltb, le-ltb}
 use Rattle.rules.specs.Numbers.{invalid}
 use Rattle.rules.specs.Graph.{Arc, addOrReduce, disconnect}
 use Rattle.graph.specs.declared.preparation_graph.Pool.{Pool}
-use Rattle.graph.specs.Memory.{Memory, memory, arc-at}
-use Rattle.graph.specs.Stands.{Stands}
-use Rattle.graph.specs.Promises.{Ready, Same}
-use Rattle.graph.proofs.Places.{live-at-most}
+use Rattle.graph.specs.Memory.{memory}
+use Rattle.graph.specs.Promises.{Addable, Same}
+use Rattle.graph.proofs.Standing.{within-pool}
 use Rattle.graphs.specs.declared.Changed.{Changed}
 use Rattle.graphs.specs.Changes.{change, exceeds, changed, refusal, Columns, change-at, after, answered}
 use Rattle.graphs.specs.Promises.{Slices, Hold, Changing, Changes, ChangingAll, ChangesAll}
-
--- a pool holds no more arcs than it has places
-pub within-pool : {n pool : ℕ} {m : Memory} {w : List ℕ} {state : Pool} {g : List Arc} → Stands n pool m w state g → length g ≤ pool
-within-pool {m = m} {w} here = omega (arith, ap length (here .arcs), length-map (here .ids) (arc-at m w), live-at-most (here .placed))
 
 pub without-head : (a : Arc) (g : List Arc) → a .head ≡ invalid → change a g ≡ disconnect g (a .tail)
 unfolding change
@@ -49,7 +44,7 @@ module _ {n pool : ℕ} {m : Slices} {state : Pool} {a : Arc} {g h : List Arc} (
 
 -- what a call of `add_or_reduce_edge` asks, and what a refused one leaves
 pub addable : {n pool : ℕ} {m : Slices} {state : Pool} {a : Arc} {g : List Arc} → Changing n pool m state a g → (a .head ≡ invalid → ⊥) →
-    Ready n pool (memory (m .arcs) (m .nodes)) (m .weights) state a g
+    Addable n pool (memory (m .arcs) (m .nodes)) (m .weights) state a g
 addable x e = record { stands = x .hold; tail-in = x .named .tail-in; head-in = x .named .head-in e }
 
 pub still : {n pool : ℕ} {m m′ : Slices} {state : Pool} {g : List Arc} →

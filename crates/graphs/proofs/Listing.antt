@@ -1,39 +1,25 @@
 -- From what fits to what the calls ask, and from what they leave to what is answered.
-use mathlib.Core.Path.{_≡_, ap, _∙_}
 use mathlib.Core.Bool.{Bool}
-use mathlib.Core.List.{List, [], map}
+use mathlib.Core.List.{List, []}
 use Prim.Native.Nat.{ℕ, _+_, _*_, _<_, _≤_}
 use native.Mathlib.Omega.{arith}
-use lib.ListN.{length, getD, length-map}
+use lib.ListN.{length, getD}
 use Rattle.rules.specs.Numbers.{invalid}
 use Rattle.rules.specs.Lists.{keep}
 use Rattle.rules.specs.Graph.{Arc}
-use Rattle.rules.specs.Columns.{linkList}
-use Rattle.rules.specs.Build.{link-arc}
-use Rattle.rules.specs.Refusals.{graph-refusal}
 use Rattle.graph.specs.declared.preparation_graph.Pool.{Pool}
-use Rattle.graph.specs.Given.{links}
 use Rattle.graph.specs.Memory.{memory, touches}
 use Rattle.graph.specs.Promises.{Spacious}
 use Rattle.graph.specs.Walks.{Reads}
-use Rattle.graph.proofs.Accepted.{accepted-between}
-use Rattle.graph.proofs.Columns.{link-count}
-use Rattle.graph.proofs.Lists.{keep-length}
+use Rattle.rules.proofs.Lists.{keep-length}
 use Rattle.graph.proofs.Reading.{reads-list}
 use Rattle.graphs.specs.Promises.{Slices, Hold, Enough}
-use Rattle.graphs.proofs.Changing.{within-pool}
+use Rattle.graph.proofs.Standing.{within-pool}
 
 pub spacious : {n pool links side v rows : ℕ} {m : Slices} → pool ≤ invalid →
     Enough n pool links side v (length (m .arcs)) (length (m .weights)) (length (m .nodes)) rows → Spacious n pool (memory (m .arcs) (m .nodes)) (m .weights)
 spacious numbered e =
     record { numbered = numbered; arcs-room = e .arcs-room; weights-room = e .weights-room; nodes-room = e .nodes-room }
-
--- the pool holds the links
-pub not-full : {A : Type 0} {n pool side v arcs weights nodes rows : ℕ} (ts hs ws : List ℕ) → graph-refusal n (links ts hs ws) ≡ 0 →
-    Enough n pool (length ts) side v arcs weights nodes rows → pool < length (map link-arc (linkList (links ts hs ws))) → A
-not-full {n = n} ts hs ws accepted e more =
-    let even = accepted-between n ts hs ws accepted .even in
-    absurd (omega (arith, more, e .links-room, length-map (linkList (links ts hs ws)) link-arc, link-count ts hs ws even))
 
 -- The list of v on side s, from where the code reads its first place.
 module _ {n pool : ℕ} {m : Slices} {state : Pool} {g : List Arc} (here : Hold n pool m state g) where

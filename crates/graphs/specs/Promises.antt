@@ -1,14 +1,14 @@
 -- What the functions ask and promise. The graph is no value of the code, so a function asks that its slices hold some, and promises
 -- what it leaves for each that they hold.
-use mathlib.Core.List.{List, map}
+use mathlib.Core.List.{List}
 use mathlib.Core.Path.{_≡_}
 use Prim.Native.Nat.{ℕ, _+_, _*_, _<_, _≤_}
 use lib.ListN.{length, getD}
 use Rattle.rules.specs.Numbers.{invalid, maxNodes}
 use Rattle.rules.specs.Lists.{keep}
 use Rattle.rules.specs.Graph.{Arc}
-use Rattle.rules.specs.Columns.{Links, linkList}
-use Rattle.rules.specs.Build.{link-arc}
+use Rattle.rules.specs.Columns.{Links}
+use Rattle.rules.specs.Build.{graph-of}
 use Rattle.rules.specs.Refusals.{graph-refusal}
 use Rattle.graph.specs.declared.preparation_graph.Pool.{Pool}
 use Rattle.graph.specs.Memory.{memory, touches}
@@ -107,16 +107,13 @@ pub record Fits (c : Call) (answers rows : ℕ) : Type 0 where
   pub enough : Enough (c .n) (c .pool) (length (c .links .tails)) (c .side) (c .v) (c .arcs) (c .weights) (c .nodes) rows
   pub given : GivenColumns (c .n) (c .changes) answers
 
--- the links' graph, and what the changes make of it
-abbrev pub links-graph : Call → List Arc
-links-graph c = map link-arc (linkList (c .links))
-
+-- what the changes make of the links' graph
 abbrev pub changed-graph : Call → List Arc
-changed-graph c = after (c .pool) (c .changes) (links-graph c) (length (c .changes .tails))
+changed-graph c = after (c .pool) (c .changes) (graph-of (c .links)) (length (c .changes .tails))
 
 pub record Taken (c : Call) (answers rows answers′ rows′ : List ℕ) (r : ℕ) : Type 0 where
   pub copied : Copied (c .side) (keep (touches (c .side) (c .v)) (changed-graph c)) rows rows′ r
-  pub answers-are : answers′ ≡ answered (c .pool) (c .changes) (links-graph c) (length (c .changes .tails)) answers
+  pub answers-are : answers′ ≡ answered (c .pool) (c .changes) (graph-of (c .links)) (length (c .changes .tails)) answers
 
 pub record Left (answers rows answers′ rows′ : List ℕ) (r : ℕ) : Type 0 where
   pub mark : r ≡ invalid

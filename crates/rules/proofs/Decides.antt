@@ -65,3 +65,18 @@ module _ {a b : Bool} {P Q : Type 0} where
 module _ {a : Bool} {P Q : Type 0} where
   pub decides-as : Decides a P → P ↔ Q → Decides a Q
   decides-as p e = (λ t. e .0 (p .0 t), λ t. p .1 (e .1 t))
+
+-- A test that was made.
+module _ {P : Type 0} where
+  pub yes : P → Decides true P
+  yes p = (λ _. p, λ _. refl)
+
+  pub refuses : {b : Bool} → b ≡ false → (P → ⊥) → Decides b P
+  refuses e f = (λ t. absurd (false≢true (sym e ∙ t)), λ p. absurd (f p))
+
+  pub no : (P → ⊥) → Decides false P
+  no = refuses refl
+
+  -- what it refused
+  pub denied : {b : Bool} → Decides b P → b ≡ false → P → ⊥
+  denied d e p = false≢true (sym e ∙ d .1 p)

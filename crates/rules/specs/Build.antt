@@ -7,7 +7,7 @@ use lib.Dec.{eqb, ltb, leb}
 use lib.ListN.{length}
 use Rattle.rules.specs.Numbers.{maxWeight, invalid}
 use Rattle.rules.specs.Lists.{position, over, range, flat-map}
-use Rattle.rules.specs.Columns.{Link, linkList, Table, Entry, Hierarchy, Side, forward, backward, room, marked}
+use Rattle.rules.specs.Columns.{Link, Links, linkList, Table, Entry, Hierarchy, Side, forward, backward, room, marked}
 use Rattle.rules.specs.TableRules.{tail-of, head-of}
 use Rattle.rules.specs.Refusals.{BuildCall, build-refusal}
 use Rattle.rules.specs.Graph.{Arc, outs, ins, addOrReduce, disconnect}
@@ -30,6 +30,10 @@ in-pool pool g = elim (leb (length g) pool) [ true ↦ went g | false ↦ refuse
 -- Rule 1.
 unfoldable pub link-arc : Link → Arc
 link-arc l = record { tail = l .tail; head = l .head; weight = l .weight; centre = invalid }
+
+-- an arc for each link
+abbrev pub graph-of : Links → List Arc
+graph-of l = map link-arc (linkList l)
 
 unfoldable pub from-links : ℕ → List Link → Step (List Arc)
 from-links pool ls = in-pool pool (map link-arc ls)

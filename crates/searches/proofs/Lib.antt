@@ -1,5 +1,4 @@
 -- Laws that several proofs cite.
-pub mod Deciding
 pub mod Links
 pub mod Answers
 pub mod Rounds

@@ -1,20 +1,17 @@
--- The graph of links: as many arcs as links, each as light as a column's number.
+-- The graph of links: each arc is as light as a column's number.
 use mathlib.Core.List.{List}
 use mathlib.Core.Path.{ap}
 use Prim.Native.Nat.{ℕ, _^_, _≤_, _<_}
 use native.Mathlib.Omega.{arith}
-use lib.ListN.{length, getD, length-map}
+use lib.ListN.{getD}
 use Rattle.rules.specs.Numbers.{maxWeight}
 use Rattle.rules.specs.Lists.{In}
 use Rattle.rules.specs.Columns.{linkList}
 use Rattle.rules.specs.Graph.{Arc}
-use Rattle.rules.specs.Build.{link-arc}
+use Rattle.rules.specs.Build.{link-arc, graph-of}
 use Rattle.rules.proofs.Members.{in-map, in-getD}
 use Rattle.routes.proofs.Starts.{weight-in}
 use Rattle.graph.specs.Given.{links}
-use Rattle.graph.specs.Promises.{Between}
-use Rattle.graph.proofs.Columns.{link-count}
-use Rattle.searches.specs.Asks.{graph-of}
 
 pub light : (ts hs ws : List ℕ) → ((k : ℕ) → getD ws k 0 < 2 ^ 32) → (a : Arc) → In a (graph-of (links ts hs ws)) → a .weight ≤ maxWeight
 unfolding link-arc linkList
@@ -22,6 +19,3 @@ light ts hs ws small a m =
     let l = in-map link-arc a (linkList (links ts hs ws)) m in
     let k = in-getD (l .0 .weight) ws 0 (weight-in ts hs ws (l .0) (l .1)) in
     omega (arith, ap (λ x. x .weight) (l .2), k .2, small (k .0))
-
-pub never-full : {n : ℕ} (ts hs ws : List ℕ) → Between n ts hs ws → length ts < length (graph-of (links ts hs ws)) → ⊥
-never-full ts hs ws b h = omega (arith, length-map (linkList (links ts hs ws)) link-arc, link-count ts hs ws (b .even))

@@ -6,6 +6,7 @@ use native.Mathlib.Numerals.{add-one}
 use native.Mathlib.Omega.{arith}
 use borrow.Author.Tests.{eq-eqb, ne-eqb, lt-ltb, le-ltb}
 use lib.ListN.{length, getD}
+use Rattle.rules.specs.Build.{graph-of}
 use Rattle.rules.specs.Numbers.{invalid, maxWeight}
 use Rattle.rules.specs.Lists.{range, count-from}
 use Rattle.rules.specs.Columns.{Links}
@@ -20,7 +21,7 @@ use Rattle.search.specs.Searching.{World, Lent, lent, Ready}
 use Rattle.search.specs.Promises.{Answered, Starts}
 use Rattle.search.proofs.Laws.{ready-stamped}
 use Rattle.searches.specs.declared.Run.{Run}
-use Rattle.searches.specs.Asks.{graph-of, Tally, tally, add-in, ask-pair, out-pair, from-tail, in-pairs, node-pairs, all-pairs}
+use Rattle.searches.specs.Asks.{Tally, tally, add-in, ask-pair, out-pair, from-tail, in-pairs, node-pairs, all-pairs}
 use Rattle.searches.specs.Fits.{mostLinks}
 use Rattle.searches.specs.Rounds.{Resting, Ground, Pairing, Went, Pairs, Leaving, Leaves, Rested, Coming, Comes, Entering, Enters}
 use Rattle.searches.proofs.Rounds.{still, starting, started, graph-there}

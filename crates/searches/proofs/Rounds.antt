@@ -5,6 +5,7 @@ use mathlib.Core.List.{List}
 use Prim.Native.Nat.{ℕ, _<_}
 use native.Mathlib.Omega.{arith}
 use lib.ListN.{length}
+use Rattle.rules.specs.Build.{graph-of}
 use Rattle.rules.specs.Columns.{Links}
 use Rattle.rules.specs.Search.{init}
 use Rattle.search.specs.declared.witness_search.WitnessSearch.{WitnessSearch}
@@ -13,11 +14,10 @@ use Rattle.search.specs.Searching.{World, lent, Ready}
 use Rattle.search.specs.Promises.{Starting, Started}
 use Rattle.search.proofs.Laws.{started-ready}
 use Rattle.searches.specs.declared.Begun.{Begun}
-use Rattle.searches.specs.Asks.{graph-of}
 use Rattle.searches.specs.Fits.{Askable, Fitting, Searchable}
 use Rattle.searches.specs.Answers.{Searches}
 use Rattle.searches.specs.Rounds.{Resting, Startable, AskingFrom, world, Ground, Begins}
-use Rattle.searches.proofs.Deciding.{refuses, no}
+use Rattle.rules.proofs.Decides.{refuses, no}
 use Rattle.searches.proofs.Answers.{none-written}
 
 -- the next search may begin, and then it goes

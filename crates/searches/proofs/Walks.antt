@@ -11,7 +11,7 @@ use Rattle.rules.specs.Graph.{Arc, leaves, enters, outs, ins}
 use Rattle.rules.proofs.Members.{in-keep, in-map}
 use Rattle.graph.specs.Memory.{memory, at, first, arc-at}
 use Rattle.graph.specs.Walks.{column, Reads, steps}
-use Rattle.graph.proofs.Lists.{keep-length}
+use Rattle.rules.proofs.Lists.{keep-length}
 use Rattle.graph.proofs.Places.{live-at-most}
 use Rattle.graph.proofs.Reading.{reads-on, reads-room, reads-nearer, reads-outs, reads-ins}
 use Rattle.search.specs.Searching.{World, Standing}

@@ -4,11 +4,12 @@ use mathlib.Core.List.{List, []}
 use mathlib.Core.Path.{_≡_}
 use Prim.Native.Nat.{ℕ}
 use lib.ListN.{length}
+use Rattle.rules.specs.Build.{graph-of}
 use Rattle.rules.specs.Lists.{over}
 use Rattle.rules.specs.Columns.{Links}
 use Rattle.rules.specs.Search.{Found, init}
 use Rattle.rules.proofs.Decides.{Decides}
-use Rattle.searches.specs.Asks.{graph-of, ask-each, weights-of, counts-of, all-pairs}
+use Rattle.searches.specs.Asks.{ask-each, weights-of, counts-of, all-pairs}
 use Rattle.searches.specs.Fits.{Fitting, Searchable}
 
 -- what was found stands at the front of the answers and counts, whose other places are as they were

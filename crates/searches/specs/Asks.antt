@@ -5,14 +5,8 @@ use Prim.Native.Nat.{ℕ, _+_, _^_, _%_}
 use lib.Dec.{eqb, ltb}
 use Rattle.rules.specs.Numbers.{maxWeight}
 use Rattle.rules.specs.Lists.{range}
-use Rattle.rules.specs.Columns.{Links, linkList}
 use Rattle.rules.specs.Graph.{Arc, outs, ins}
-use Rattle.rules.specs.Build.{link-arc}
 use Rattle.rules.specs.Search.{Search, Found, init, find-max-weight}
-
--- an arc for each link
-abbrev pub graph-of : Links → List Arc
-graph-of l = map link-arc (linkList l)
 
 module _ (g : List Arc) (avoid limit : ℕ) where
   -- each target and sum in turn, and the search of one is handed to the next

@@ -5,6 +5,7 @@ use mathlib.Core.List.{List, foldl}
 use mathlib.Core.Path.{_≡_}
 use Prim.Native.Nat.{ℕ, _+_, _*_, _^_, _<_, _≤_}
 use lib.ListN.{length}
+use Rattle.rules.specs.Build.{graph-of}
 use Rattle.rules.specs.Numbers.{maxWeight}
 use Rattle.rules.specs.Columns.{Links}
 use Rattle.rules.specs.Graph.{Arc, outs, ins}
@@ -17,7 +18,7 @@ use Rattle.search.specs.Searching.{World, Standing, Lent, Ready}
 use Rattle.search.specs.Promises.{Each}
 use Rattle.searches.specs.declared.Begun.{Begun}
 use Rattle.searches.specs.declared.Run.{Run}
-use Rattle.searches.specs.Asks.{graph-of, ask-each, Tally, tally, ask-pair, out-pair, from-tail, node-pairs, all-pairs}
+use Rattle.searches.specs.Asks.{ask-each, Tally, tally, ask-pair, out-pair, from-tail, node-pairs, all-pairs}
 use Rattle.searches.specs.Fits.{mostNodes, mostLinks, Askable, Fitting}
 use Rattle.searches.specs.Answers.{Written}
 

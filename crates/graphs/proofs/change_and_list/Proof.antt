@@ -2,7 +2,8 @@
 use native.Mathlib.Omega.{arith}
 use Rattle.graph.specs.Memory.{touches}
 use Rattle.graph.proofs.Accepted.{accepted-between}
-use Rattle.graphs.proofs.Listing.{spacious, not-full, list-reads, list-short}
+use Rattle.graph.proofs.LinksIn.{never-full}
+use Rattle.graphs.proofs.Listing.{spacious, list-reads, list-short}
 use borrow.Author.Needs.{needs}
 use Rattle.graphs.proofs.change_and_list.Statement.{statement}
 use Rattle.graphs.proofs.change_and_list.Tie as tie
@@ -31,7 +32,7 @@ same-length-3 : tie.Need-same-length-3
 same-length-3 c = search needs
 
 returns : tie.Need-returns
-returns c = let f = c .before .before .before .before .before .before .before .before .before .before .before .before .before .before .before .before .before .before .before .before .before .before .before .before .pre in not-full _ _ _ (f .accepted) (f .enough) (c .before .before .before .before .before .before .before .before .from-input-graph .ensures .full (c .enum-told .given .1))
+returns c = let f = c .before .before .before .before .before .before .before .before .before .before .before .before .before .before .before .before .before .before .before .before .before .before .before .before .pre in absurd (never-full _ _ _ (accepted-between _ _ _ _ (f .accepted) .even) (f .enough .links-room) (c .before .before .before .before .before .before .before .before .from-input-graph .ensures .full (c .enum-told .given .1)))
 
 change-all-requires : tie.Need-change-all-requires
 change-all-requires c κs = let s = c .before .before .before .before .before .before .before .before .before .before .before .before .before .before .before .before .before .before .before .before .before .before .before .before .before .before .before .before .before in (s .args .n, _, record { hold = c .before .before .before .before .before .before .before .before .before .before .before .before .before .from-input-graph .ensures .came _ (c .before .before .before .before .before .added .given .1); given = s .pre .given })

@@ -1,11 +1,11 @@
 -- Every change that was passed is of nodes below n.
-use mathlib.Core.Bool.{false≢true}
-use mathlib.Core.Path.{_≡_, refl, sym, _∙_}
+use mathlib.Core.Path.{_≡_, refl}
 use Prim.Native.Nat.{ℕ, _-_, _+_, _<_, _≤_}
 use native.Mathlib.Omega.{arith}
 use borrow.Author.Count.{below-more}
 use borrow.Author.Tests.{not-true, not-false}
 use lib.ListN.{length, getD}
+use Rattle.rules.proofs.Decides.{yes, no, denied}
 use Rattle.graphs.specs.Promises.{Named}
 use borrow.Author.Needs.{needs}
 use Rattle.graphs.proofs.changes_fit.Statement.{statement}
@@ -22,16 +22,16 @@ abbrev μ-loop : tie.MeasureT-loop
 μ-loop n froms tos sums centres answers count k₀ k = count - k
 
 returns : tie.Need-returns Inv-loop μ-loop
-returns c = (λ e. absurd (false≢true e), λ x. absurd (c .if1 .taken (x .heads-even)))
+returns c = no (λ x. c .if1 .taken (x .heads-even))
 
 returns-2 : tie.Need-returns-2 Inv-loop μ-loop
-returns-2 c = (λ e. absurd (false≢true e), λ x. absurd (c .if2 .taken (x .weights-even)))
+returns-2 c = no (λ x. c .if2 .taken (x .weights-even))
 
 returns-3 : tie.Need-returns-3 Inv-loop μ-loop
-returns-3 c = (λ e. absurd (false≢true e), λ x. absurd (c .if3 .taken (x .centres-even)))
+returns-3 c = no (λ x. c .if3 .taken (x .centres-even))
 
 returns-4 : tie.Need-returns-4 Inv-loop μ-loop
-returns-4 c = (λ e. absurd (false≢true e), λ x. absurd (omega (arith, x .answers-room, c .if4 .taken)))
+returns-4 c = no (λ x. omega (arith, x .answers-room, c .if4 .taken))
 
 loop-holds : tie.Need-loop-holds Inv-loop μ-loop
 loop-holds c = (omega arith, refl, c .before .before .before .if1 .left, λ j h. absurd (omega arith))
@@ -52,7 +52,7 @@ named-requires : tie.Need-named-requires Inv-loop μ-loop
 named-requires c κs = search needs
 
 returns-5 : tie.Need-returns-5 Inv-loop μ-loop
-returns-5 c = (λ e. absurd (false≢true e), λ x. absurd (false≢true (sym (not-true _ (c .if5 .taken)) ∙ c .before .named .ensures .1 (x .named _ (omega (arith, c .before .before .before .before .loop-test .taken, c .before .before .before .before .before .loop .inv .1))))))
+returns-5 c = no (λ x. denied (c .before .named .ensures) (not-true _ (c .if5 .taken)) (x .named _ (omega (arith, c .before .before .before .before .loop-test .taken, c .before .before .before .before .before .loop .inv .1))))
 
 add-k : tie.Need-add-k Inv-loop μ-loop
 add-k c = search needs
@@ -64,7 +64,7 @@ loop-again : tie.Need-loop-again Inv-loop μ-loop
 loop-again c = (omega (arith, c .before .before .before .before .loop-test .taken), c .before .before .before .before .before .loop .inv .1, c .before .before .before .before .before .loop .inv .2, below-more _ _ (c .before .before .before .before .before .loop .inv .3) (c .before .named .ensures .0 (not-false _ (c .if5 .left))))
 
 returns-6 : tie.Need-returns-6 Inv-loop μ-loop
-returns-6 c = (λ _. record { heads-even = c .before .loop .inv .2; weights-even = c .before .before .before .before .if2 .left; centres-even = c .before .before .before .if3 .left; answers-room = omega (arith, c .before .before .if4 .left); named = λ j h. c .before .loop .inv .3 j (omega (arith, c .before .loop .inv .1, c .loop-test .left)) }, λ _. refl)
+returns-6 c = yes (record { heads-even = c .before .loop .inv .2; weights-even = c .before .before .before .before .if2 .left; centres-even = c .before .before .before .if3 .left; answers-room = omega (arith, c .before .before .if4 .left); named = λ j h. c .before .loop .inv .3 j (omega (arith, c .before .loop .inv .1, c .loop-test .left)) })
 
 pub changes-fit-spec : {M : Type 1} → statement M
 changes-fit-spec =

@@ -1,8 +1,8 @@
 -- What a test found missing fits not; what none did fits.
-use mathlib.Core.Bool.{false≢true}
 use mathlib.Core.Path.{refl, sym, _∙_}
 use borrow.Author.Tests.{not-true, not-false}
 use borrow.Author.Needs.{needs}
+use Rattle.rules.proofs.Decides.{denied}
 use Rattle.graphs.proofs.graph_changes.Statement.{statement}
 use Rattle.graphs.proofs.graph_changes.Tie as tie
 use Rattle.graphs.proofs.graph_changes.Reads as reads
@@ -22,13 +22,13 @@ lent-fits-requires : tie.Need-lent-fits-requires
 lent-fits-requires c κs = search needs
 
 returns-2 : tie.Need-returns-2
-returns-2 c = record { taken = λ f. absurd (false≢true (sym (not-true _ (c .if2 .taken)) ∙ c .before .lent-fits .ensures .1 (f .enough))); left = λ _. record { mark = refl; answers-same = refl; rows-same = refl } }
+returns-2 c = record { taken = λ f. absurd (denied (c .before .lent-fits .ensures) (not-true _ (c .if2 .taken)) (f .enough)); left = λ _. record { mark = refl; answers-same = refl; rows-same = refl } }
 
 changes-fit-requires : tie.Need-changes-fit-requires
 changes-fit-requires c κs = search needs
 
 returns-3 : tie.Need-returns-3
-returns-3 c = record { taken = λ f. absurd (false≢true (sym (not-true _ (c .if3 .taken)) ∙ c .before .changes-fit .ensures .1 (f .given))); left = λ _. record { mark = refl; answers-same = refl; rows-same = refl } }
+returns-3 c = record { taken = λ f. absurd (denied (c .before .changes-fit .ensures) (not-true _ (c .if3 .taken)) (f .given)); left = λ _. record { mark = refl; answers-same = refl; rows-same = refl } }
 
 change-and-list-requires : tie.Need-change-and-list-requires
 change-and-list-requires c κs = record { accepted = sym (c .before .before .before .before .before .before .before .before .before .before .check-graph .ensures) ∙ c .before .before .before .before .before .before .before .before .before .if1 .left; enough = c .before .before .before .before .before .before .before .before .lent-fits .ensures .0 (not-false _ (c .before .before .before .before .before .before .before .if2 .left)); given = c .before .before .before .before .before .before .changes-fit .ensures .0 (not-false _ (c .before .before .before .before .before .if3 .left)) }

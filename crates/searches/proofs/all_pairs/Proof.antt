@@ -2,7 +2,7 @@
 use mathlib.Core.Path.{refl}
 use borrow.Author.Tests.{not-true, not-false}
 use borrow.Author.Needs.{needs}
-use Rattle.searches.proofs.Deciding.{denied}
+use Rattle.rules.proofs.Decides.{denied}
 use Rattle.searches.proofs.all_pairs.Statement.{statement}
 use Rattle.searches.proofs.all_pairs.Tie as tie
 

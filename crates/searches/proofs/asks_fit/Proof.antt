@@ -5,7 +5,7 @@ use native.Mathlib.Omega.{arith}
 use borrow.Author.Count.{below-more}
 use lib.ListN.{length, getD}
 use Rattle.rules.specs.Numbers.{maxWeight}
-use Rattle.searches.proofs.Deciding.{yes, no}
+use Rattle.rules.proofs.Decides.{yes, no}
 use borrow.Author.Needs.{needs}
 use Rattle.searches.proofs.asks_fit.Statement.{statement}
 use Rattle.searches.proofs.asks_fit.Tie as tie

@@ -1,8 +1,9 @@
 -- The tests left what the calls ask.
 use native.Mathlib.Omega.{arith}
 use borrow.Author.Tests.{not-true, not-false}
-use Rattle.searches.proofs.Deciding.{yes, denied}
-use Rattle.searches.proofs.Links.{light, never-full}
+use Rattle.rules.proofs.Decides.{yes, denied}
+use Rattle.graph.proofs.LinksIn.{never-full}
+use Rattle.searches.proofs.Links.{light}
 use Rattle.searches.proofs.Rounds.{not-begun}
 use borrow.Author.Needs.{needs}
 use Rattle.searches.proofs.begin.Statement.{statement}
@@ -52,7 +53,7 @@ same-length-3 : tie.Need-same-length-3
 same-length-3 c = search needs
 
 returns-2 : tie.Need-returns-2
-returns-2 c = not-begun _ (c .refused2 .ensures) (λ p. never-full _ _ _ (p .between) (c .before .before .before .before .before .before .before .before .before .from-input-graph .ensures .full (c .before .enum-told2 .given .1)))
+returns-2 c = not-begun _ (c .refused2 .ensures) (λ p. never-full _ _ _ (p .between .even) (omega arith) (c .before .before .before .before .before .before .before .before .before .from-input-graph .ensures .full (c .before .enum-told2 .given .1)))
 
 new-requires : tie.Need-new-requires
 new-requires c κs = c .before .before .before .before .before .before .before .before .before .before .before .before .before .before .given-fits .ensures .0 (not-false _ (c .before .before .before .before .before .before .before .before .before .before .before .before .before .if1 .left)) .enough .labels-room

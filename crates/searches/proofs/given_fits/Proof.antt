@@ -1,7 +1,7 @@
 -- One test after the other.
 use borrow.Author.Tests.{not-true, not-false}
 use borrow.Author.Needs.{needs}
-use Rattle.searches.proofs.Deciding.{no, denied}
+use Rattle.rules.proofs.Decides.{no, denied}
 use Rattle.searches.proofs.given_fits.Statement.{statement}
 use Rattle.searches.proofs.given_fits.Tie as tie
 

@@ -3,7 +3,7 @@ use Prim.Native.Nat.{_-_}
 use native.Mathlib.Omega.{arith}
 use borrow.Author.Tests.{leb-true, le-leb}
 use borrow.Author.Needs.{needs}
-use Rattle.searches.proofs.Deciding.{no}
+use Rattle.rules.proofs.Decides.{no}
 use Rattle.searches.proofs.lent_fits.Statement.{statement}
 use Rattle.searches.proofs.lent_fits.Tie as tie
 

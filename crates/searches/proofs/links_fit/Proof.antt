@@ -4,7 +4,7 @@ use Prim.Native.Nat.{ℕ, _-_, _≤_, _<_}
 use native.Mathlib.Omega.{arith}
 use borrow.Author.Count.{below-more}
 use lib.ListN.{length, getD}
-use Rattle.searches.proofs.Deciding.{yes, no}
+use Rattle.rules.proofs.Decides.{yes, no}
 use borrow.Author.Needs.{needs}
 use Rattle.searches.proofs.links_fit.Statement.{statement}
 use Rattle.searches.proofs.links_fit.Tie as tie

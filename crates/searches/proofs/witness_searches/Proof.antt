@@ -3,7 +3,7 @@ use mathlib.Core.Bool.{false≢true}
 use mathlib.Core.Path.{sym}
 use native.Mathlib.Omega.{arith}
 use borrow.Author.Tests.{not-true, not-false}
-use Rattle.searches.proofs.Deciding.{yes, denied}
+use Rattle.rules.proofs.Decides.{yes, denied}
 use Rattle.searches.proofs.Rounds.{turned-away, graph-there, from-ground}
 use borrow.Author.Needs.{needs}
 use Rattle.searches.proofs.witness_searches.Statement.{statement}
