@@ -1,7 +1,7 @@
 -- `heap::leading` meets its contract: of the two children the one returned may leave before the other.
 use mathlib.Core.Bool.{Bool, true, false}
 use mathlib.Core.List.{List}
-use mathlib.Core.Path.{_≡_, sym}
+use mathlib.Core.Path.{_≡_, sym, ap, _∙_}
 use Prim.Native.Nat.{ℕ, _+_, _*_, _<_, _≤_}
 use native.Mathlib.Nat.{add-zero}
 use native.Mathlib.Omega.{arith}
@@ -54,7 +54,10 @@ add-result c = omega (arith, bit (c .first .result))
 returns : tie.Need-returns
 returns c =
     let s = c .before .before .before in
-    by-test (s .args .heap .now) (s .args .len) (s .args .i) (s .pre .1) (omega arith) (c .first .result) (cc)
+    let xs = s .args .heap .now in
+    let i = s .args .i in
+    by-test xs (s .args .len) i (s .pre .1) (omega arith) (c .first .result)
+    (c .first .ensures ∙ ap (leaves-first (item xs (2 * i + 1 + 1))) (c .before .load .ensures))
 
 pub leading-spec : {M : Type 1} → statement M
 leading-spec = tie.close (tie.spec mul-left add-left add-first load-requires first-requires cast-result add-result returns)

@@ -1,6 +1,7 @@
 -- `heap::rise` meets its contract. The loop's invariant: the gap has moved from `i` to `gap`, and `x` may leave before all that
 -- is below. The measure is the gap's place.
 use mathlib.Core.Logic.{⊎-elim}
+use mathlib.Core.Path.{sym, _∙_}
 use Prim.Native.Nat.{_*_, _<_, _≤_}
 use native.Mathlib.Omega.{arith}
 use lib.ListN.{length}
@@ -45,7 +46,7 @@ loop-again c =
     let a = l .before .before .args in
     let up : 0 < l .loop .gap = omega arith in
     let above = item (l .loop .heap) (parent (l .loop .gap)) in
-    let f : First (of (a .x)) above = first-total above (of (a .x)) (cc) in (
+    let f : First (of (a .x)) above = first-total above (of (a .x)) (sym (c .before .before .before .before .before .first .ensures) ∙ c .before .before .before .before .if1 .left) in (
       omega arith,
       rw (c .before .before .shift .ensures)
           (rises (room l) (l .loop .inv .1) (of (a .x)) up f),
@@ -56,7 +57,7 @@ loop-again c =
 -- the loop is left at the root, or below an item that may leave before x
 stops : (c : tie.Left-loop Inv-loop μ-loop) → 0 < c .before .loop .gap →
     First (item (c .before .loop .heap) (parent (c .before .loop .gap))) (of (c .before .before .before .args .x))
-stops c up = ⊎-elim (λ w. absurd (omega arith)) (λ w. cc) (c .loop-test .came)
+stops c up = ⊎-elim (λ w. absurd (omega arith)) (λ w. sym (w .2 .ensures) ∙ w .3 .taken) (c .loop-test .came)
 
 store-requires : tie.Need-store-requires Inv-loop μ-loop
 store-requires c κs = omega arith

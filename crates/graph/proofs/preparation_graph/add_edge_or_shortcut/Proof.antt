@@ -44,13 +44,13 @@ put-arc-requires c κs =
     addable-takes r (freed-below (r .stands .placed) (c .before .before .before .before .if1 .taken))
 
 same-length : tie.Need-same-length
-same-length c = search needs
+same-length c = c .before .before .before .before .before .before .put-arc .kept .0
 
 same-length-2 : tie.Need-same-length-2
-same-length-2 c = search needs
+same-length-2 c = c .before .before .before .before .before .before .put-arc .kept .1 .0
 
 same-length-3 : tie.Need-same-length-3
-same-length-3 c = search needs
+same-length-3 c = c .before .before .before .before .before .before .put-arc .kept .1 .1 .0
 
 returns : tie.Need-returns
 returns c n g r =
@@ -64,13 +64,13 @@ add-t35 : tie.Need-add-t35
 add-t35 c = search needs
 
 same-length-4 : tie.Need-same-length-4
-same-length-4 c = search needs
+same-length-4 c = c .before .before .before .before .before .before .put-arc2 .kept .0
 
 same-length-5 : tie.Need-same-length-5
-same-length-5 c = search needs
+same-length-5 c = c .before .before .before .before .before .before .put-arc2 .kept .1 .0
 
 same-length-6 : tie.Need-same-length-6
-same-length-6 c = search needs
+same-length-6 c = c .before .before .before .before .before .before .put-arc2 .kept .1 .1 .0
 
 returns-2 : tie.Need-returns-2
 returns-2 c n g r =

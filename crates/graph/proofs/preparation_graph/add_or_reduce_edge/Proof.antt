@@ -1,4 +1,5 @@
 -- `add_or_reduce_edge` meets its contract: where nothing was reduced the slices are as they were, and an arc is added.
+use mathlib.Core.Path.{refl, _∙_}
 use Rattle.graph.proofs.Answering.{answers-came, still-addable, answers-after}
 use borrow.Author.Needs.{needs}
 use Rattle.graph.proofs.preparation_graph.add_or_reduce_edge.Statement.{statement}
@@ -12,13 +13,13 @@ reduce-edge-requires : tie.Need-reduce-edge-requires
 reduce-edge-requires c κs = search needs
 
 same-length : tie.Need-same-length
-same-length c = search needs
+same-length c = c .before .before .before .before .before .reduce-edge .kept .0
 
 same-length-2 : tie.Need-same-length-2
-same-length-2 c = search needs
+same-length-2 c = c .before .before .before .before .before .reduce-edge .kept .1 .0
 
 same-length-3 : tie.Need-same-length-3
-same-length-3 c = search needs
+same-length-3 c = refl
 
 returns : tie.Need-returns
 returns c n g r =
@@ -34,13 +35,13 @@ add-edge-or-shortcut-requires c κs =
     (k .0, k .1, still-addable (reduced .same (c .before .before .before .if1 .left)) (k .2))
 
 same-length-4 : tie.Need-same-length-4
-same-length-4 c = search needs
+same-length-4 c = c .before .before .before .before .before .before .add-edge-or-shortcut .kept .0 ∙ c .before .before .before .before .before .before .before .before .before .before .before .before .before .before .before .reduce-edge .kept .0
 
 same-length-5 : tie.Need-same-length-5
-same-length-5 c = search needs
+same-length-5 c = c .before .before .before .before .before .before .add-edge-or-shortcut .kept .1 .0 ∙ c .before .before .before .before .before .before .before .before .before .before .before .before .before .before .before .reduce-edge .kept .1 .0
 
 same-length-6 : tie.Need-same-length-6
-same-length-6 c = search needs
+same-length-6 c = c .before .before .before .before .before .before .add-edge-or-shortcut .kept .1 .1 .0
 
 returns-2 : tie.Need-returns-2
 returns-2 c n g r =

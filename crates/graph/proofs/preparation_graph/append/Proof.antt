@@ -70,7 +70,7 @@ same-length : tie.Need-same-length
 same-length c = c .before .before .before .before .follow .kept .0 ∙ simp length-set
 
 same-length-2 : tie.Need-same-length-2
-same-length-2 c = search needs
+same-length-2 c = simp length-set (c .before .before .before .before .follow .kept .1 .0)
 
 returns : tie.Need-returns
 unfolding append

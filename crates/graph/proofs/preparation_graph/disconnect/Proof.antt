@@ -1,8 +1,8 @@
 -- `disconnect` meets its contract: the arcs that leave go first, then those that enter.
+use mathlib.Core.Path.{_∙_}
 use native.Mathlib.Omega.{arith}
 use Rattle.graph.specs.Walks.{untouched}
 use Rattle.graph.proofs.Removing.{disconnected}
-use borrow.Author.Needs.{needs}
 use Rattle.graph.proofs.preparation_graph.disconnect.Statement.{statement}
 use Rattle.graph.proofs.preparation_graph.disconnect.Tie as tie
 use Rattle.graph.proofs.preparation_graph.disconnect.Reads as reads
@@ -33,10 +33,10 @@ remove-side-requires-2 c κs =
     )
 
 same-length : tie.Need-same-length
-same-length c = search needs
+same-length c = c .before .before .before .before .remove-side2 .kept .0 ∙ c .before .before .before .before .before .before .before .before .before .before .before .remove-side .kept .0
 
 same-length-2 : tie.Need-same-length-2
-same-length-2 c = search needs
+same-length-2 c = c .before .before .before .before .remove-side2 .kept .1 .0 ∙ c .before .before .before .before .before .before .before .before .before .before .before .remove-side .kept .1 .0
 
 returns : tie.Need-returns
 returns c n pool w g here inside =

@@ -1,6 +1,6 @@
 -- The invariant: the slices hold the first i links.
 use mathlib.Core.List.{map}
-use mathlib.Core.Path.{_≡_, refl, sym, _∙_}
+use mathlib.Core.Path.{_≡_, refl, _∙_}
 use Prim.Native.Nat.{_-_, _≤_}
 use native.Mathlib.Omega.{arith}
 use borrow.Author.Needs.{needs}
@@ -70,13 +70,13 @@ enum-told : tie.Need-enum-told Inv-loop μ-loop
 enum-told c = search needs
 
 same-length : tie.Need-same-length Inv-loop μ-loop
-same-length c = search needs
+same-length c = c .before .before .before .before .before .before .before .before .add-edge-or-shortcut .kept .0 ∙ c .before .before .before .before .before .before .before .before .before .before .before .before .before .before .before .before .loop .inv .2
 
 same-length-2 : tie.Need-same-length-2 Inv-loop μ-loop
-same-length-2 c = search needs
+same-length-2 c = c .before .before .before .before .before .before .before .before .add-edge-or-shortcut .kept .1 .0 ∙ c .before .before .before .before .before .before .before .before .before .before .before .before .before .before .before .before .loop .inv .3
 
 same-length-3 : tie.Need-same-length-3 Inv-loop μ-loop
-same-length-3 c = search needs
+same-length-3 c = c .before .before .before .before .before .before .before .before .add-edge-or-shortcut .kept .1 .1 .0 ∙ c .before .before .before .before .before .before .before .before .before .before .before .before .before .before .before .before .loop .inv .4 ∙ c .before .before .before .before .before .before .before .before .before .before .before .before .before .before .before .before .before .before .before .clear .kept .0
 
 returns : tie.Need-returns Inv-loop μ-loop
 returns c =
@@ -97,26 +97,27 @@ loop-again : tie.Need-loop-again Inv-loop μ-loop
 loop-again c =
     let loop = c .before .before .before .before .before .before .before .before .before .before .before .before .before .before .before .before .before .loop in
     let b = loop .inv .1 in
-    let below = c .before .before .before .before .before .before .before .before .before .before .before .before .before .before .before .before .loop-test .taken in (
+    let below = c .before .before .before .before .before .before .before .before .before .before .before .before .before .before .before .before .loop-test .taken in
+    let call = c .before .before .before .before .before .before .before .before .before .add-edge-or-shortcut in (
       omega (arith, below),
       b,
-      search needs,
-      search needs,
-      search needs,
+      call .kept .0 ∙ loop .inv .2,
+      call .kept .1 .0 ∙ loop .inv .3,
+      call .kept .1 .1 .0 ∙ loop .inv .4,
       next-came _ _ _ b (loop .i) (loop .inv .5) below
-          (c .before .before .before .before .before .before .before .before .before .add-edge-or-shortcut .ensures _ _ (next-addable _ _ _ b (loop .i) (loop .inv .5) below))
+          (call .ensures _ _ (next-addable _ _ _ b (loop .i) (loop .inv .5) below))
           _
           (c .before .added .given .1),
     )
 
 same-length-4 : tie.Need-same-length-4 Inv-loop μ-loop
-same-length-4 c = search needs
+same-length-4 c = c .before .loop .inv .2
 
 same-length-5 : tie.Need-same-length-5 Inv-loop μ-loop
-same-length-5 c = search needs
+same-length-5 c = c .before .loop .inv .3
 
 same-length-6 : tie.Need-same-length-6 Inv-loop μ-loop
-same-length-6 c = search needs
+same-length-6 c = c .before .loop .inv .4 ∙ c .before .before .before .before .clear .kept .0
 
 returns-2 : tie.Need-returns-2 Inv-loop μ-loop
 returns-2 c = all-came _ _ _ (c .before .loop .inv .1) (c .before .loop .i) (c .before .loop .inv .5) (search needs)

@@ -39,13 +39,13 @@ append-requires-2 c κs =
     )
 
 same-length : tie.Need-same-length
-same-length c = search needs
+same-length c = c .before .before .before .before .append2 .kept .0 ∙ c .before .before .before .before .before .before .before .before .before .before .before .append .kept .0 ∙ c .before .before .before .before .before .before .before .before .before .before .before .before .before .before .before .before .before .before .write-arc .kept .0
 
 same-length-2 : tie.Need-same-length-2
-same-length-2 c = search needs
+same-length-2 c = c .before .before .before .before .before .before .before .before .before .before .before .before .before .before .before .before .before .before .write-arc .kept .1 .0
 
 same-length-3 : tie.Need-same-length-3
-same-length-3 c = search needs
+same-length-3 c = c .before .before .before .before .append2 .kept .1 .0 ∙ c .before .before .before .before .before .before .before .before .before .before .before .append .kept .1 .0
 
 returns : tie.Need-returns
 unfolding put

@@ -148,7 +148,7 @@ same-length : tie.Need-same-length
 same-length c = simp length-set (c .before .before .before .before .unlink2 .kept .0 ∙ c .before .before .before .before .before .before .before .before .before .before .before .unlink .kept .0)
 
 same-length-2 : tie.Need-same-length-2
-same-length-2 c = search needs
+same-length-2 c = c .before .before .before .before .unlink2 .kept .1 .0 ∙ c .before .before .before .before .before .before .before .before .before .before .before .unlink .kept .1 .0
 
 returns : tie.Need-returns
 unfolding remove

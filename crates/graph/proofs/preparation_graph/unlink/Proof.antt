@@ -1,6 +1,7 @@
 -- `unlink` meets its contract: its stores are those of the definition, with `follow` before them.
 use mathlib.Core.Path.{ap}
 use Prim.Native.Nat.{_+_}
+use lib.ListN.{length-set}
 use borrow.Author.Tests.{eq-eqb, ne-eqb}
 use Rattle.rules.specs.Numbers.{invalid}
 use Rattle.graph.specs.Memory.{Memory}
@@ -50,10 +51,10 @@ slice-write-nodes : tie.Need-slice-write-nodes
 slice-write-nodes c = search needs
 
 same-length : tie.Need-same-length
-same-length c = search needs
+same-length c = c .before .before .before .before .before .follow .kept .0
 
 same-length-2 : tie.Need-same-length-2
-same-length-2 c = search needs
+same-length-2 c = simp length-set (c .before .before .before .before .before .follow .kept .1 .0)
 
 returns : tie.Need-returns
 unfolding unlink
@@ -63,10 +64,10 @@ returns c =
     (ap (λ (m : Memory). set-last m (a .side) (a .node) (a .before)) (c .before .before .before .before .before .follow .ensures))
 
 same-length-3 : tie.Need-same-length-3
-same-length-3 c = search needs
+same-length-3 c = c .before .before .before .before .before .follow .kept .0
 
 same-length-4 : tie.Need-same-length-4
-same-length-4 c = search needs
+same-length-4 c = c .before .before .before .before .before .follow .kept .1 .0
 
 returns-2 : tie.Need-returns-2
 unfolding unlink

@@ -1,5 +1,5 @@
 -- `find_max_weight` meets its contract: the answer at once, by label or by stamp, or that of a run.
-use mathlib.Core.Path.{sym, _∙_}
+use mathlib.Core.Path.{refl, sym, _∙_}
 use native.Mathlib.Omega.{arith}
 use borrow.Author.Needs.{needs}
 use Rattle.search.proofs.Offers.{label-room}
@@ -11,7 +11,7 @@ get-current-weight-requires : tie.Need-get-current-weight-requires
 get-current-weight-requires c κs = search needs
 
 same-length : tie.Need-same-length
-same-length c = search needs
+same-length c = refl
 
 returns : tie.Need-returns
 returns c =
@@ -21,7 +21,7 @@ is-settled-requires : tie.Need-is-settled-requires
 is-settled-requires c κs = search needs
 
 same-length-2 : tie.Need-same-length-2
-same-length-2 c = search needs
+same-length-2 c = refl
 
 returns-2 : tie.Need-returns-2
 returns-2 c =
@@ -38,10 +38,10 @@ get-current-weight-requires-2 c κs =
     omega (arith, label-room (x .ready .searching) _ (x .inside), c .before .before .before .before .before .run .kept .1 .1 .1 .0)
 
 same-length-3 : tie.Need-same-length-3
-same-length-3 c = search needs
+same-length-3 c = c .before .before .before .before .before .before .run .kept .1 .1 .1 .0
 
 same-length-4 : tie.Need-same-length-4
-same-length-4 c = search needs
+same-length-4 c = c .before .before .before .before .before .before .run .kept .1 .1 .1 .1 .0
 
 returns-3 : tie.Need-returns-3
 returns-3 c =

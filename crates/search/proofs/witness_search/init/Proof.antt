@@ -17,10 +17,10 @@ push-requires : tie.Need-push-requires
 push-requires c κs = (omega (arith, c .before .before .before .before .before .before .before .before .pre .1 .heap-room), empty-ordered _)
 
 same-length : tie.Need-same-length
-same-length c = search needs
+same-length c = c .before .before .before .before .before .before .update-node .kept .0
 
 same-length-2 : tie.Need-same-length-2
-same-length-2 c = search needs
+same-length-2 c = c .before .before .push .kept .0
 
 returns : tie.Need-returns
 returns c =

@@ -1,4 +1,5 @@
 -- `offer` meets its contract: `Offers` has a law for either answer of the test.
+use mathlib.Core.Path.{refl}
 use native.Mathlib.Omega.{arith}
 use borrow.Author.Needs.{needs}
 use Rattle.search.proofs.Offers.{offered-not, offered-new}
@@ -18,10 +19,10 @@ add-result : tie.Need-add-result
 add-result c = search needs
 
 same-length : tie.Need-same-length
-same-length c = search needs
+same-length c = c .before .before .before .before .before .before .update-node .kept .0
 
 same-length-2 : tie.Need-same-length-2
-same-length-2 c = search needs
+same-length-2 c = c .before .before .push .kept .0
 
 returns : tie.Need-returns
 returns c =
@@ -37,7 +38,7 @@ returns c =
     (c .before .before .push .ensures))
 
 same-length-3 : tie.Need-same-length-3
-same-length-3 c = search needs
+same-length-3 c = refl
 
 returns-2 : tie.Need-returns-2
 returns-2 c =

@@ -15,10 +15,10 @@ offer-requires : tie.Need-offer-requires
 offer-requires c κs = search needs
 
 same-length : tie.Need-same-length
-same-length c = search needs
+same-length c = c .before .before .before .before .offer .kept .0
 
 same-length-2 : tie.Need-same-length-2
-same-length-2 c = search needs
+same-length-2 c = c .before .before .before .before .offer .kept .1 .0
 
 returns-2 : tie.Need-returns-2
 returns-2 c =

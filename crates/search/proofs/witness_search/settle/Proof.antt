@@ -42,7 +42,7 @@ same-length : tie.Need-same-length
 same-length c = c .before .before .before .before .relax .kept .1 .1 .0 ∙ simp length-set
 
 same-length-2 : tie.Need-same-length-2
-same-length-2 c = search needs
+same-length-2 c = c .before .before .before .before .relax .kept .1 .1 .1 .0
 
 returns : tie.Need-returns
 unfolding put-settled

@@ -1,5 +1,5 @@
 -- `take` meets its contract: the first entry's node is settled already, or is settled now.
-use mathlib.Core.Path.{sym, ap, _∙_}
+use mathlib.Core.Path.{refl, sym, ap, _∙_}
 use mathlib.Core.Bool.{not}
 use native.Mathlib.Omega.{arith}
 use borrow.Author.Needs.{needs}
@@ -21,10 +21,10 @@ sub-t20 : tie.Need-sub-t20
 sub-t20 c = search needs
 
 same-length : tie.Need-same-length
-same-length c = search needs
+same-length c = refl
 
 same-length-2 : tie.Need-same-length-2
-same-length-2 c = search needs
+same-length-2 c = c .before .before .before .before .before .pop .kept .0
 
 returns : tie.Need-returns
 returns c = λ w s x. taken-over x (c .before .before .before .before .before .pop .ensures) _ (sym (c .before .is-settled .ensures) ∙ c .if1 .taken)
@@ -46,10 +46,10 @@ reached-requires c κs =
     omega (arith, label-room (x .asked .ready .searching) _ (x .asked .inside), c .before .before .before .before .before .settle .kept .1 .1 .1 .0)
 
 same-length-3 : tie.Need-same-length-3
-same-length-3 c = search needs
+same-length-3 c = c .before .before .before .before .before .before .settle .kept .1 .1 .1 .0
 
 same-length-4 : tie.Need-same-length-4
-same-length-4 c = search needs
+same-length-4 c = c .before .before .before .before .before .before .settle .kept .1 .1 .1 .1 .0 ∙ c .before .before .before .before .before .before .before .before .before .before .before .before .before .before .pop .kept .0
 
 returns-2 : tie.Need-returns-2
 returns-2 c =
