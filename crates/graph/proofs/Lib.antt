@@ -9,7 +9,4 @@ pub mod Reducing
 pub mod Removing
 pub mod Walking
 pub mod Answering
-pub mod Columns
-pub mod Rows
-pub mod Accepted
 pub mod LinksIn

@@ -10,14 +10,14 @@ use Rattle.rules.specs.Numbers.{invalid}
 use Rattle.rules.specs.Columns.{Link, linkList}
 use Rattle.rules.specs.Graph.{Arc}
 use Rattle.rules.specs.Build.{link-arc, graph-of}
-use Rattle.graph.specs.Given.{link, links, Even}
+use Rattle.input_graph.specs.Given.{link, links, Even, Between}
 use Rattle.graph.specs.declared.preparation_graph.Pool.{Pool}
 use Rattle.graph.specs.declared.preparation_graph.Added.{Added}
 use Rattle.graph.specs.declared.preparation_graph.Added.the-variants.{Arc as Came, Full}
 use Rattle.graph.specs.Memory.{Memory}
 use Rattle.graph.specs.Stands.{Stands}
-use Rattle.graph.specs.Promises.{arc, Addable, Answers, Between, Holds}
-use Rattle.graph.proofs.Columns.{at, from-link, link-count}
+use Rattle.graph.specs.Promises.{arc, Addable, Answers, Holds}
+use Rattle.input_graph.proofs.Columns.{at, from-link, link-count}
 
 module _ (ts hs ws : List ℕ) (even : Even ts hs ws) where
   abbrev pub so-far : ℕ → List Arc

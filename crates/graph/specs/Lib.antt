@@ -3,5 +3,4 @@ pub mod Memory
 pub mod Stands
 pub mod Steps
 pub mod Walks
-pub mod Given
 pub mod Promises

@@ -12,7 +12,6 @@ use Rattle.graph.specs.declared.preparation_graph.Added.{Added}
 use Rattle.graph.specs.declared.preparation_graph.Added.the-variants.{Arc as Came, Full}
 use Rattle.graph.specs.Memory.{Memory, last, touches}
 use Rattle.graph.specs.Stands.{Stands}
-use Rattle.graph.specs.Given.{Even}
 use Rattle.graph.specs.Walks.{drop-first, untouched}
 
 abbrev pub arc : ℕ → ℕ → ℕ → ℕ → Arc
@@ -89,12 +88,6 @@ pub record Spacious (n pool : ℕ) (m : Memory) (w : List ℕ) : Type 0 where
   pub arcs-room : 6 * pool ≤ length (m .arcs)
   pub weights-room : pool ≤ length w
   pub nodes-room : 4 * n ≤ length (m .nodes)
-
--- the columns are links between n nodes
-pub record Between (n : ℕ) (ts hs ws : List ℕ) : Type 0 where
-  pub even : Even ts hs ws
-  pub tails : (i : ℕ) → i < length ts → getD ts i 0 < n
-  pub heads : (i : ℕ) → i < length ts → getD hs i 0 < n
 
 -- the slices hold g; or the pool is smaller
 pub record Holds (n pool : ℕ) (m : Memory) (w : List ℕ) (g : List Arc) (r : Added) : Type 0 where

@@ -20,8 +20,8 @@ ghost use Rattle.graph.specs.Stands.{Stands};
 ghost use Rattle.graph.specs.Steps.{follow as followed, append as appended, unlink as unlinked, write, put};
 ghost use Rattle.graph.specs.Walks.{column, Walk, before as before-in, found};
 ghost use Rattle.rules.specs.Build.{graph-of};
-ghost use Rattle.graph.specs.Given.{links};
-ghost use Rattle.graph.specs.Promises.{Spacious, Between, Holds, arc, state-of, Room, Open, Takes, Addable, HoldsSome, Answers, Reduces, Drops, Clears};
+ghost use Rattle.input_graph.specs.Given.{links, Between};
+ghost use Rattle.graph.specs.Promises.{Spacious, Holds, arc, state-of, Room, Open, Takes, Addable, HoldsSome, Answers, Reduces, Drops, Clears};
 
 // What goes with the slices: the first of the freed places, and how many places were ever used.
 pub struct Pool {

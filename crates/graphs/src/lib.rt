@@ -7,15 +7,15 @@ ghost use lib.ListN.{length};
 ghost use Rattle.rules.specs.Refusals.{graph-refusal};
 ghost use Rattle.rules.specs.Graph.{Arc};
 ghost use Rattle.rules.proofs.Decides.{Decides};
-ghost use Rattle.graph.specs.Given.{links};
+ghost use Rattle.input_graph.specs.Given.{links};
 ghost use Rattle.graph.specs.Memory.{memory, arc-at};
 ghost use Rattle.graph.specs.Promises.{arc};
 ghost use Rattle.graph.specs.Walks.{Reads};
 ghost use Rattle.graphs.specs.Changes.{columns, write-row};
 ghost use Rattle.graphs.specs.Promises.{slices, Named, Changing, Changes, Given, ChangingAll, ChangesAll, Row, Copied, Enough, call, Fits, Taken, Outcome};
-use graph::input_graph::check_graph;
 use graph::preparation_graph::Added;
 use graph::preparation_graph::Pool;
+use input_graph::check_graph;
 use rules::INVALID;
 
 // What a change leaves: the pool, and the refusal 10 where it would have exceeded it, else 0.

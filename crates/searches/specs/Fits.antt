@@ -5,7 +5,7 @@ use Prim.Native.Nat.{ℕ, _+_, _*_, _<_, _≤_}
 use lib.ListN.{length, getD}
 use Rattle.rules.specs.Numbers.{maxWeight}
 use Rattle.rules.specs.Columns.{Links}
-use Rattle.graph.specs.Promises.{Between}
+use Rattle.input_graph.specs.Given.{Between}
 
 abbrev pub mostNodes : ℕ
 mostNodes = 1048576

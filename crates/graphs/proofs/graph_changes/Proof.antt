@@ -7,7 +7,7 @@ use Rattle.graphs.proofs.graph_changes.Statement.{statement}
 use Rattle.graphs.proofs.graph_changes.Tie as tie
 use Rattle.graphs.proofs.graph_changes.Reads as reads
 use Rattle.graphs.proofs.graph_changes.Lts as lts
-use Rattle.graph.proofs.input_graph.check_graph.Reads as check-graph-reads
+use Rattle.input_graph.proofs.check_graph.Reads as check-graph-reads
 use Rattle.graphs.proofs.change_and_list.Reads as change-and-list-reads
 use Rattle.graphs.proofs.changes_fit.Reads as changes-fit-reads
 use Rattle.graphs.proofs.lent_fits.Reads as lent-fits-reads

@@ -1,7 +1,7 @@
 -- Each return is a case of `bad-in`, by the tests that led there.
-use Rattle.graph.proofs.Columns.{high-tail, high-head, same-ends, no-weight}
-use Rattle.graph.proofs.input_graph.bad.Statement.{statement}
-use Rattle.graph.proofs.input_graph.bad.Tie as tie
+use Rattle.input_graph.proofs.Columns.{high-tail, high-head, same-ends, no-weight}
+use Rattle.input_graph.proofs.bad.Statement.{statement}
+use Rattle.input_graph.proofs.bad.Tie as tie
 
 returns : tie.Need-returns
 returns c = high-tail _ _ _ _ _ (c .before .if1 .taken) (c .if2 .taken)

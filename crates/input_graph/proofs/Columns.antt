@@ -12,7 +12,7 @@ use Rattle.rules.specs.Lists.{any}
 use Rattle.rules.specs.Columns.{Link, zip-links, linkList}
 use Rattle.rules.specs.Refusals.{names-none-above, loop, goes-before, ascending}
 use Rattle.rules.proofs.Cases.{on-test}
-use Rattle.graph.specs.Given.{link, links, Even, bad-in}
+use Rattle.input_graph.specs.Given.{link, links, Even, bad-in}
 
 zip-drop : (ts hs ws : List ℕ) (i : ℕ) → length hs ≡ length ts → length ws ≡ length ts → i < length ts →
     drop i (zip-links ts hs ws) ≡ link (getD ts i 0) (getD hs i 0) (getD ws i 0) ∷ drop (suc i) (zip-links ts hs ws)

@@ -4,7 +4,7 @@ ghost use mathlib.Core.Bool.{not};
 ghost use Rattle.rules.specs.Lists.{any};
 ghost use Rattle.rules.specs.Columns.{linkList};
 ghost use Rattle.rules.specs.Refusals.{ascending, goes-before, graph-refusal};
-ghost use Rattle.graph.specs.Given.{link, links, Even, bad-in};
+ghost use Rattle.input_graph.specs.Given.{link, links, Even, bad-in};
 
 // Whether row 3, 4 or 5 finds this link bad.
 fn bad(row: u32, n: usize, tail: u32, head: u32, weight: u32) -> bool

@@ -2,9 +2,9 @@
 use mathlib.Core.Bool.{Bool, true, false, not}
 use mathlib.Core.List.{List}
 use mathlib.Core.Path.{_≡_}
-use Prim.Native.Nat.{ℕ}
+use Prim.Native.Nat.{ℕ, _<_}
 use lib.Dec.{eqb}
-use lib.ListN.{length}
+use lib.ListN.{length, getD}
 use Rattle.rules.specs.Columns.{Link, Links, linkList}
 use Rattle.rules.specs.Refusals.{names-none-above, loop}
 
@@ -18,6 +18,12 @@ links ts hs ws = record { tails = ts; heads = hs; weights = ws }
 pub record Even (ts hs ws : List ℕ) : Type 0 where
   pub heads : length hs ≡ length ts
   pub weights : length ws ≡ length ts
+
+-- the columns are links between n nodes
+pub record Between (n : ℕ) (ts hs ws : List ℕ) : Type 0 where
+  pub even : Even ts hs ws
+  pub tails : (i : ℕ) → i < length ts → getD ts i 0 < n
+  pub heads : (i : ℕ) → i < length ts → getD hs i 0 < n
 
 -- what rows 3, 4 and 5 find in a link of a graph of n nodes
 unfoldable pub bad-in : ℕ → ℕ → Link → Bool

@@ -11,7 +11,7 @@ use Rattle.rules.specs.Lists.{all, any}
 use Rattle.rules.specs.Columns.{Link, Links, linkList}
 use Rattle.rules.specs.Refusals.{first-met, names-none-above, loop, ascending, columns-fit, graph-rows, graph-refusal}
 use Rattle.rules.proofs.Cases.{on-test}
-use Rattle.graph.specs.Given.{links, Even, bad-in}
+use Rattle.input_graph.specs.Given.{links, Even, bad-in}
 
 -- rows 3 to 5 as the walk over the links asks them
 above-rows : (n : ℕ) (ls : List Link) → not (all (names-none-above n) ls) ≡ any (bad-in 3 n) ls

@@ -7,10 +7,10 @@ use borrow.Author.Tests.{not-true, not-false}
 use lib.ListN.{length, drop}
 use Rattle.rules.specs.Columns.{linkList}
 use Rattle.rules.specs.Refusals.{ascending}
-use Rattle.graph.specs.Given.{links, Even}
-use Rattle.graph.proofs.Columns.{falls-here, rises-here, rises-on}
-use Rattle.graph.proofs.input_graph.ascend.Statement.{statement}
-use Rattle.graph.proofs.input_graph.ascend.Tie as tie
+use Rattle.input_graph.specs.Given.{links, Even}
+use Rattle.input_graph.proofs.Columns.{falls-here, rises-here, rises-on}
+use Rattle.input_graph.proofs.ascend.Statement.{statement}
+use Rattle.input_graph.proofs.ascend.Tie as tie
 
 abbrev Inv-loop : tie.InvT-loop
 Inv-loop tails heads weights i₀ i =

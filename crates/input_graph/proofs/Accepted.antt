@@ -13,8 +13,7 @@ use Rattle.rules.specs.Columns.{zip-links, linkList}
 use Rattle.rules.specs.Refusals.{names-none-above, columns-fit, graph-rows, graph-refusal}
 use Rattle.rules.proofs.Decides.{and-both}
 use Rattle.rules.proofs.Rows.{not-met}
-use Rattle.graph.specs.Given.{links, Even}
-use Rattle.graph.specs.Promises.{Between}
+use Rattle.input_graph.specs.Given.{links, Even, Between}
 
 -- row 3, link by link
 ends-below : (n : ℕ) (ts hs ws : List ℕ) → length hs ≡ length ts → length ws ≡ length ts → all (names-none-above n) (zip-links ts hs ws) ≡ true →

@@ -1,9 +1,9 @@
 -- Each return is the first row that is met, by the tests that led there.
 use mathlib.Core.Path.{sym, _∙_}
-use Rattle.graph.specs.Given.{Even}
-use Rattle.graph.proofs.Rows.{too-many, uneven-heads, uneven-weights, too-long, row-3, row-4, row-5, row-6, no-row}
-use Rattle.graph.proofs.input_graph.check_graph.Statement.{statement}
-use Rattle.graph.proofs.input_graph.check_graph.Tie as tie
+use Rattle.input_graph.specs.Given.{Even}
+use Rattle.input_graph.proofs.Rows.{too-many, uneven-heads, uneven-weights, too-long, row-3, row-4, row-5, row-6, no-row}
+use Rattle.input_graph.proofs.check_graph.Statement.{statement}
+use Rattle.input_graph.proofs.check_graph.Tie as tie
 
 -- past the tests of their lengths the columns have one
 even : (c : tie.Else3) →

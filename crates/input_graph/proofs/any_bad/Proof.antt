@@ -7,10 +7,10 @@ use borrow.Author.Needs.{needs}
 use lib.ListN.{length, drop}
 use Rattle.rules.specs.Lists.{any}
 use Rattle.rules.specs.Columns.{linkList}
-use Rattle.graph.specs.Given.{links, Even, bad-in}
-use Rattle.graph.proofs.Columns.{found-here, not-here, none-there}
-use Rattle.graph.proofs.input_graph.any_bad.Statement.{statement}
-use Rattle.graph.proofs.input_graph.any_bad.Tie as tie
+use Rattle.input_graph.specs.Given.{links, Even, bad-in}
+use Rattle.input_graph.proofs.Columns.{found-here, not-here, none-there}
+use Rattle.input_graph.proofs.any_bad.Statement.{statement}
+use Rattle.input_graph.proofs.any_bad.Tie as tie
 
 abbrev Inv-loop : tie.InvT-loop
 Inv-loop row n tails heads weights i₀ i =

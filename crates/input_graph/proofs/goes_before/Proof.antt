@@ -1,7 +1,7 @@
 -- By tails where they differ, and by heads where they do not.
-use Rattle.graph.proofs.Columns.{same-tail, other-tail}
-use Rattle.graph.proofs.input_graph.goes_before.Statement.{statement}
-use Rattle.graph.proofs.input_graph.goes_before.Tie as tie
+use Rattle.input_graph.proofs.Columns.{same-tail, other-tail}
+use Rattle.input_graph.proofs.goes_before.Statement.{statement}
+use Rattle.input_graph.proofs.goes_before.Tie as tie
 
 returns : tie.Need-returns
 returns c = same-tail _ _ _ _ (c .if1 .taken)

@@ -1,0 +1,4 @@
+-- What the proofs share.
+pub mod Columns
+pub mod Rows
+pub mod Accepted

@@ -1,0 +1,2 @@
+-- Links as they are handed in.
+pub mod Given
