@@ -8,9 +8,9 @@ use Rattle.rules.specs.Graph.{Arc}
 use Rattle.graph.specs.declared.preparation_graph.Pool.{Pool}
 use Rattle.graph.specs.declared.preparation_graph.Added.{Added}
 use Rattle.graph.specs.declared.preparation_graph.Added.the-variants.{Arc as Came, Full}
-use Rattle.graph.specs.Memory.{Memory}
+use Rattle.lists.specs.Memory.{Memory}
 use Rattle.graph.specs.Stands.{Stands}
-use Rattle.graph.specs.Promises.{Addable, Same, Answers, Reduces}
+use Rattle.graph.specs.Promises.{Addable, Same, Answers}
 
 came-same : (s t : Pool) → Came s ≡ Came t → s ≡ t
 came-same s t e = cc

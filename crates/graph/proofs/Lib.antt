@@ -1,12 +1,9 @@
 -- What the proofs share.
-pub mod Chains
-pub mod Stores
 pub mod Sides
 pub mod Places
 pub mod Standing
 pub mod Reading
 pub mod Reducing
 pub mod Removing
-pub mod Walking
 pub mod Answering
 pub mod LinksIn

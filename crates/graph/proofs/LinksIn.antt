@@ -1,7 +1,7 @@
 -- The first links, as arcs.
 use mathlib.Core.List.{List, [], _∷_, _++_, map, map-append}
-use mathlib.Core.Path.{_≡_, refl, sym, ap, _∙_}
-use Prim.Native.Nat.{ℕ, suc, _+_, _≤_, _<_}
+use mathlib.Core.Path.{_≡_, sym, ap, _∙_}
+use Prim.Native.Nat.{ℕ, _+_, _≤_, _<_}
 use native.Mathlib.Numerals.{add-one}
 use native.Mathlib.Omega.{arith}
 use lib.ListN.{length, getD, take, length-map, length-take}
@@ -14,9 +14,9 @@ use Rattle.input_graph.specs.Given.{link, links, Even, Between}
 use Rattle.graph.specs.declared.preparation_graph.Pool.{Pool}
 use Rattle.graph.specs.declared.preparation_graph.Added.{Added}
 use Rattle.graph.specs.declared.preparation_graph.Added.the-variants.{Arc as Came, Full}
-use Rattle.graph.specs.Memory.{Memory}
+use Rattle.lists.specs.Memory.{Memory, arc}
 use Rattle.graph.specs.Stands.{Stands}
-use Rattle.graph.specs.Promises.{arc, Addable, Answers, Holds}
+use Rattle.graph.specs.Promises.{Addable, Answers, Holds}
 use Rattle.input_graph.proofs.Columns.{at, from-link, link-count}
 
 module _ (ts hs ws : List ℕ) (even : Even ts hs ws) where

@@ -11,12 +11,12 @@ use Rattle.rules.specs.Lists.{In, keep}
 use Rattle.rules.specs.Graph.{Arc}
 use Rattle.rules.proofs.Lists.{keep-same, Distinct, of-distinct, distinct-left, without}
 use Rattle.graph.specs.declared.preparation_graph.Pool.{Pool}
-use Rattle.graph.specs.Memory.{Memory, memory, at, ends-at}
+use Rattle.lists.specs.Memory.{Memory, memory, at, ends-at}
 use Rattle.graph.specs.Stands.{Placed}
-use Rattle.graph.specs.Steps.{set-at, append, unlink, write, put}
-use Rattle.graph.specs.Walks.{before}
-use Rattle.graph.proofs.Chains.{Valid}
-use Rattle.graph.proofs.Stores.{Beside, at-same, at-other, beside-append, beside-unlink}
+use Rattle.lists.specs.Steps.{set-at, append, unlink, write, put}
+use Rattle.lists.specs.Walks.{before}
+use Rattle.lists.proofs.Chains.{Valid}
+use Rattle.lists.proofs.Stores.{Beside, at-same, at-other, beside-append, beside-unlink}
 use Rattle.graph.proofs.Sides.{Sided, Roomy, listed-same, same-ends, beside-sided, append-sided, unlink-sided}
 
 -- there are two sides

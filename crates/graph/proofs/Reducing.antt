@@ -15,13 +15,13 @@ use Rattle.rules.proofs.Cases.{on-test}
 use Rattle.rules.proofs.Arcs.{same-arc, joined-ends}
 use Rattle.rules.proofs.Lists.{keep-same, map-same, Distinct}
 use Rattle.graph.specs.declared.preparation_graph.Pool.{Pool}
-use Rattle.graph.specs.Memory.{Memory, at, arc-at, ends-at}
+use Rattle.lists.specs.Memory.{Memory, at, arc-at, ends-at}
 use Rattle.graph.specs.Stands.{Placed, Stands}
-use Rattle.graph.specs.Steps.{set-at}
-use Rattle.graph.specs.Walks.{found}
+use Rattle.lists.specs.Steps.{set-at}
+use Rattle.lists.specs.Walks.{found}
 use Rattle.graph.specs.Promises.{Reduces}
-use Rattle.graph.proofs.Chains.{Valid, chain-same}
-use Rattle.graph.proofs.Stores.{at-same, at-other}
+use Rattle.lists.proofs.Chains.{Valid, chain-same}
+use Rattle.lists.proofs.Stores.{at-same, at-other}
 use Rattle.graph.proofs.Sides.{listed-same}
 use Rattle.graph.proofs.Places.{valid, once, place-below}
 

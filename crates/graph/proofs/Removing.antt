@@ -15,14 +15,16 @@ use Rattle.rules.proofs.Arcs.{same-arc}
 use Rattle.rules.proofs.Members.{in-keep, keep-in}
 use Rattle.rules.proofs.Lists.{keep-same, keep-all, keep-both, map-same, Distinct, to-distinct, distinct-parts, distinct-moved, in-moved, without, other-same, other-true, without-absent, without-length, in-without}
 use Rattle.graph.specs.declared.preparation_graph.Pool.{Pool}
-use Rattle.graph.specs.Memory.{Memory, at, first, arc-at, ends-at, touches}
+use Rattle.lists.specs.Memory.{Memory, at, first, arc-at, ends-at, touches}
 use Rattle.graph.specs.Stands.{Placed, Stands}
-use Rattle.graph.specs.Steps.{set-at, unlink, remove}
-use Rattle.graph.specs.Walks.{Walk, before, drop-first, untouched, steps}
-use Rattle.graph.specs.Promises.{Room, Open, HoldsSome, Drops, Clears, state-of}
-use Rattle.graph.proofs.Chains.{chain-same, before-in}
+use Rattle.lists.specs.Steps.{set-at, unlink, remove}
+use Rattle.lists.specs.Walks.{Walk, before, steps}
+use Rattle.graph.specs.Promises.{drop-first, untouched, HoldsSome, Drops, Clears, state-of}
+use Rattle.lists.specs.Promises.{Room, Open}
+use Rattle.lists.proofs.Chains.{chain-same, before-in}
 use Rattle.graph.proofs.Places.{all-once, once, roomy, removed-sides, removed-same, removed-free, removed-freed, removed-arcs-long, removed-nodes-long}
-use Rattle.graph.proofs.Reading.{touched, own-arcs, own-walk, walk-on, walk-end, walk-steps, reads-on, reads-list}
+use Rattle.graph.proofs.Reading.{touched, own-arcs, own-walk, reads-list}
+use Rattle.lists.proofs.Walks.{walk-on, walk-end, walk-steps, reads-on}
 
 module _ (p : Arc → Bool) where
   -- what is dropped would not have been kept

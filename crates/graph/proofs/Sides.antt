@@ -13,12 +13,12 @@ use Rattle.rules.specs.Lists.{In, keep}
 use Rattle.rules.proofs.Cases.{on-test}
 use Rattle.rules.proofs.Members.{in-keep, keep-in}
 use Rattle.rules.proofs.Lists.{keep-same, keep-append, keep-one, keep-none, keep-turned, Distinct, keep-distinct, other, without, without-absent}
-use Rattle.graph.specs.Memory.{Memory, at, first, last, ends-at, Chain, last-of}
+use Rattle.lists.specs.Memory.{Memory, at, first, last, ends-at, Chain, last-of}
 use Rattle.graph.specs.Stands.{Listed}
-use Rattle.graph.specs.Steps.{set-at, set-last, follow, append, unlink}
-use Rattle.graph.specs.Walks.{before}
-use Rattle.graph.proofs.Chains.{Valid, chain-same, chain-append, chain-unlink, last-in, before-in, last-append, last-unlink}
-use Rattle.graph.proofs.Stores.{Beside, at-same, at-other, after, after-place, after-mark, first-of-set-last, last-of-set-last, last-elsewhere, beside-follow, beside-append, beside-unlink, follow-here, follow-link, follow-first, follow-last, follow-other}
+use Rattle.lists.specs.Steps.{set-at, set-last, follow, append, unlink}
+use Rattle.lists.specs.Walks.{before}
+use Rattle.lists.proofs.Chains.{Valid, chain-same, chain-append, chain-unlink, last-in, before-in, last-append, last-unlink}
+use Rattle.lists.proofs.Stores.{Beside, at-same, at-other, after, after-place, after-mark, first-of-set-last, last-of-set-last, last-elsewhere, beside-follow, beside-append, beside-unlink, follow-here, follow-link, follow-first, follow-last, follow-other}
 
 -- each node's list on side s is the places whose arcs have that end there
 abbrev pub Sided : ℕ → Memory → ℕ → List ℕ → Type 0

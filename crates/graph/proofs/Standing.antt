@@ -13,11 +13,11 @@ use Rattle.rules.proofs.Arcs.{same-arc}
 use Rattle.rules.proofs.Members.{in-keep}
 use Rattle.rules.proofs.Lists.{map-same, Distinct, to-distinct, distinct-parts, distinct-insert}
 use Rattle.graph.specs.declared.preparation_graph.Pool.{Pool}
-use Rattle.graph.specs.Memory.{Memory, memory, at, last, arc-at, ends-at, Chain, last-of}
+use Rattle.lists.specs.Memory.{Memory, memory, at, last, arc-at, ends-at, Chain, last-of}
 use Rattle.graph.specs.Stands.{Placed, Stands}
-use Rattle.graph.specs.Promises.{Open, Takes}
-use Rattle.graph.specs.Steps.{put}
-use Rattle.graph.proofs.Chains.{chain-same, chain-empty, chain-first, last-in}
+use Rattle.lists.specs.Promises.{Open, Takes}
+use Rattle.lists.specs.Steps.{put}
+use Rattle.lists.proofs.Chains.{chain-same, chain-empty, chain-first, last-in}
 use Rattle.graph.proofs.Places.{freed-valid, all-once, once, roomy, live-at-most, on-sides, put-sides, put-other, put-tail, put-head, put-centre, put-arcs-long, put-nodes-long}
 
 -- Live arcs never exceed the pool.

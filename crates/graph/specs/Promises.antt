@@ -1,41 +1,20 @@
 -- What the functions ask and promise. `m` and `w` are the slices at entry, `m′` and `w′` at exit.
 use mathlib.Core.List.{List, [], _∷_, _++_}
-use mathlib.Core.Bool.{Bool, true, false}
+use mathlib.Core.Bool.{Bool, true, false, not}
 use mathlib.Core.Path.{_≡_}
 use Prim.Native.Nat.{ℕ, _+_, _*_, _<_, _≤_}
-use lib.ListN.{length, getD}
+use lib.ListN.{length}
 use Rattle.rules.specs.Numbers.{invalid}
-use Rattle.rules.specs.Lists.{any}
+use Rattle.rules.specs.Lists.{any, keep}
 use Rattle.rules.specs.Graph.{Arc, joins, addOrReduce}
 use Rattle.graph.specs.declared.preparation_graph.Pool.{Pool}
 use Rattle.graph.specs.declared.preparation_graph.Added.{Added}
 use Rattle.graph.specs.declared.preparation_graph.Added.the-variants.{Arc as Came, Full}
-use Rattle.graph.specs.Memory.{Memory, last, touches}
+use Rattle.lists.specs.Memory.{Memory, touches}
 use Rattle.graph.specs.Stands.{Stands}
-use Rattle.graph.specs.Walks.{drop-first, untouched}
-
-abbrev pub arc : ℕ → ℕ → ℕ → ℕ → Arc
-arc t h w c = record { tail = t; head = h; weight = w; centre = c }
 
 abbrev pub state-of : ℕ → ℕ → Pool
 state-of f u = record { free = f; fresh = u }
-
--- a place's six numbers are within the slice
-abbrev pub Room : Memory → ℕ → Type 0
-Room m i = 6 * i + 6 ≤ length (m .arcs)
-
--- the list of v on side s can be changed after b
-pub record Open (m : Memory) (s v b : ℕ) : Type 0 where
-  pub side : s < 2
-  pub node : 4 * v + 4 ≤ length (m .nodes)
-  pub place : (b ≡ invalid → ⊥) → Room m b
-
--- place i can take an arc
-pub record Takes (m : Memory) (w : List ℕ) (i : ℕ) (a : Arc) : Type 0 where
-  pub place : Room m i
-  pub weighed : i < length w
-  pub out : Open m 0 (a .tail) (last m 0 (a .tail))
-  pub enter : Open m 1 (a .head) (last m 1 (a .head))
 
 -- the slices hold g, and a is an arc between its nodes
 pub record Addable (n pool : ℕ) (m : Memory) (w : List ℕ) (state : Pool) (a : Arc) (g : List Arc) : Type 0 where
@@ -70,6 +49,15 @@ pub record Reduces (n pool : ℕ) (m : Memory) (w : List ℕ) (m′ : Memory) (w
   pub reduced : r ≡ true → Stands n pool m′ w′ state (addOrReduce a g)
   pub added : r ≡ false → addOrReduce a g ≡ g ++ a ∷ []
   pub same : r ≡ false → Same m w m′ w′
+
+-- all but the first that passes
+unfoldable pub drop-first {ℓ} : {A : Type ℓ} → (A → Bool) → List A → List A
+drop-first p [] = []
+drop-first p (x ∷ l) = elim (p x) [ true ↦ l | false ↦ x ∷ drop-first p l ]
+
+-- the arcs that have not their end of side s at v
+unfoldable pub untouched : ℕ → ℕ → List Arc → List Arc
+untouched s v g = keep (λ a. not (touches s v a)) g
 
 -- whatever graph stood, it stands without the first arc of the list of v on side s; or without any of them
 abbrev pub Drops : Memory → Memory → ℕ → ℕ → ℕ → ℕ → Type 0

@@ -8,7 +8,7 @@ use Rattle.rules.specs.Numbers.{invalid}
 use Rattle.rules.specs.Lists.{In, keep, distinct}
 use Rattle.rules.specs.Graph.{Arc}
 use Rattle.graph.specs.declared.preparation_graph.Pool.{Pool}
-use Rattle.graph.specs.Memory.{Memory, at, first, last, arc-at, ends-at, Chain, last-of}
+use Rattle.lists.specs.Memory.{Memory, at, first, last, arc-at, ends-at, Chain, last-of}
 
 -- the list of v on side s is at these places
 pub record Listed (m : Memory) (s v : ℕ) (l : List ℕ) : Type 0 where

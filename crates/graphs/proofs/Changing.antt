@@ -11,7 +11,7 @@ use borrow.Author.Tests.{eq-eqb, ne-eqb, lt-ltb, le-ltb}
 use Rattle.rules.specs.Numbers.{invalid}
 use Rattle.rules.specs.Graph.{Arc, addOrReduce, disconnect}
 use Rattle.graph.specs.declared.preparation_graph.Pool.{Pool}
-use Rattle.graph.specs.Memory.{memory}
+use Rattle.lists.specs.Memory.{memory}
 use Rattle.graph.specs.Promises.{Addable, Same}
 use Rattle.graph.proofs.Standing.{within-pool}
 use Rattle.graphs.specs.declared.Changed.{Changed}

@@ -7,10 +7,10 @@ use native.Mathlib.Omega.{arith}
 use lib.ListN.{length, getD, set}
 use Rattle.rules.specs.Numbers.{invalid}
 use Rattle.rules.specs.Graph.{Arc}
-use Rattle.graph.specs.Memory.{memory, arc-at}
-use Rattle.graph.specs.Walks.{Reads}
+use Rattle.lists.specs.Memory.{memory, arc-at}
+use Rattle.lists.specs.Walks.{Reads}
 use Rattle.graph.proofs.Places.{on-sides}
-use Rattle.graph.proofs.Reading.{reads-on, reads-end, reads-room}
+use Rattle.lists.proofs.Walks.{reads-on, reads-end, reads-room}
 use Rattle.graphs.specs.Changes.{far, write-row, write-rows}
 use Rattle.graphs.specs.Promises.{Row, Copied}
 

@@ -8,9 +8,9 @@ use Rattle.rules.specs.Numbers.{invalid}
 use Rattle.rules.specs.Lists.{keep}
 use Rattle.rules.specs.Graph.{Arc}
 use Rattle.graph.specs.declared.preparation_graph.Pool.{Pool}
-use Rattle.graph.specs.Memory.{memory, touches}
+use Rattle.lists.specs.Memory.{memory, touches}
 use Rattle.graph.specs.Promises.{Spacious}
-use Rattle.graph.specs.Walks.{Reads}
+use Rattle.lists.specs.Walks.{Reads}
 use Rattle.rules.proofs.Lists.{keep-length}
 use Rattle.graph.proofs.Reading.{reads-list}
 use Rattle.graphs.specs.Promises.{Slices, Hold, Enough}

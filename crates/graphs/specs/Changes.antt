@@ -7,7 +7,7 @@ use lib.Dec.{eqb, ltb}
 use lib.ListN.{length, getD, set}
 use Rattle.rules.specs.Numbers.{invalid}
 use Rattle.rules.specs.Graph.{Arc, addOrReduce, disconnect}
-use Rattle.graph.specs.Promises.{arc}
+use Rattle.lists.specs.Memory.{arc}
 
 -- an arc is added or reduced; one without a head removes every arc of its tail
 unfoldable pub change : Arc → List Arc → List Arc

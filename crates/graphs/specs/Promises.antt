@@ -11,7 +11,7 @@ use Rattle.rules.specs.Columns.{Links}
 use Rattle.rules.specs.Build.{graph-of}
 use Rattle.rules.specs.Refusals.{graph-refusal}
 use Rattle.graph.specs.declared.preparation_graph.Pool.{Pool}
-use Rattle.graph.specs.Memory.{memory, touches}
+use Rattle.lists.specs.Memory.{memory, touches}
 use Rattle.graph.specs.Stands.{Stands}
 use Rattle.graphs.specs.declared.Changed.{Changed}
 use Rattle.graphs.specs.Changes.{changed, refusal, Columns, change-at, after, answered, write-rows}

@@ -10,7 +10,7 @@ use Rattle.rules.specs.Search.{Search, mark-settled, settle}
 use Rattle.rules.proofs.Members.{in-keep, map-in}
 use Rattle.rules.proofs.Lists.{keep-length}
 use Rattle.heap.specs.Items.{pair}
-use Rattle.graph.specs.Memory.{memory, arc-at, ends-at, touches}
+use Rattle.lists.specs.Memory.{memory, arc-at, ends-at, touches}
 use Rattle.graph.proofs.Places.{place-below}
 use Rattle.graph.proofs.Standing.{within-pool}
 use Rattle.graph.proofs.Reading.{own-arcs, outs-walk}

@@ -8,9 +8,9 @@ use Rattle.rules.specs.Numbers.{invalid}
 use Rattle.rules.specs.Heap.{Item}
 use Rattle.rules.specs.Search.{Search, relax}
 use Rattle.heap.specs.Items.{pair}
-use Rattle.graph.specs.Memory.{memory, arc-at, Chain}
-use Rattle.graph.specs.Walks.{steps}
-use Rattle.graph.proofs.Chains.{Valid, chain-first, chain-empty, chain-steps}
+use Rattle.lists.specs.Memory.{memory, arc-at, Chain}
+use Rattle.lists.specs.Walks.{steps}
+use Rattle.lists.proofs.Chains.{Valid, chain-first, chain-empty, chain-steps}
 use Rattle.search.specs.Turns.{cross}
 use Rattle.search.specs.Searching.{Searching}
 use Rattle.search.specs.Promises.{Offering, Crossed, Row, Usable, Relaxing}

@@ -10,7 +10,7 @@ use Rattle.rules.specs.Graph.{outs}
 use Rattle.rules.specs.Search.{Search, init, offer, relax, settle, run, search-fuel, find-max-weight}
 use Rattle.heap.specs.Items.{pair, item, items}
 use Rattle.heap.specs.Shape.{Ordered}
-use Rattle.graph.specs.Memory.{memory, arc-at, Chain}
+use Rattle.lists.specs.Memory.{memory, arc-at, Chain}
 use Rattle.search.specs.declared.witness_search.WitnessSearch.{WitnessSearch}
 use Rattle.search.specs.declared.witness_search.Found.{Found}
 use Rattle.search.specs.declared.witness_search.Progress.{Progress}

@@ -11,7 +11,7 @@ use Rattle.rules.specs.Search.{Search}
 use Rattle.routes.proofs.SearchBounds.{Paid}
 use Rattle.heap.specs.Promises.{Holds}
 use Rattle.graph.specs.declared.preparation_graph.Pool.{Pool}
-use Rattle.graph.specs.Memory.{memory}
+use Rattle.lists.specs.Memory.{memory}
 use Rattle.graph.specs.Stands.{Stands}
 use Rattle.search.specs.Labels.{Labelled, Reached}
 

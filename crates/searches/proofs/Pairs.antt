@@ -12,9 +12,9 @@ use Rattle.rules.specs.Lists.{range, count-from}
 use Rattle.rules.specs.Columns.{Links}
 use Rattle.rules.specs.Graph.{Arc, outs, ins}
 use Rattle.rules.specs.Search.{Search, init, find-max-weight}
-use Rattle.graph.specs.Memory.{memory}
-use Rattle.graph.specs.Walks.{column}
-use Rattle.graph.proofs.Reading.{reads-end, tail-at}
+use Rattle.lists.specs.Memory.{memory}
+use Rattle.lists.specs.Walks.{column}
+use Rattle.lists.proofs.Walks.{reads-end, tail-at}
 use Rattle.search.specs.declared.witness_search.WitnessSearch.{WitnessSearch}
 use Rattle.search.specs.declared.witness_search.Found.{Found as Answer}
 use Rattle.search.specs.Searching.{World, Lent, lent, Ready}

@@ -9,11 +9,12 @@ use Rattle.rules.specs.Numbers.{invalid, maxWeight}
 use Rattle.rules.specs.Lists.{In}
 use Rattle.rules.specs.Graph.{Arc, leaves, enters, outs, ins}
 use Rattle.rules.proofs.Members.{in-keep, in-map}
-use Rattle.graph.specs.Memory.{memory, at, first, arc-at}
-use Rattle.graph.specs.Walks.{column, Reads, steps}
+use Rattle.lists.specs.Memory.{memory, at, first, arc-at}
+use Rattle.lists.specs.Walks.{column, Reads, steps}
 use Rattle.rules.proofs.Lists.{keep-length}
 use Rattle.graph.proofs.Places.{live-at-most}
-use Rattle.graph.proofs.Reading.{reads-on, reads-room, reads-nearer, reads-outs, reads-ins}
+use Rattle.lists.proofs.Walks.{reads-on, reads-room, reads-nearer}
+use Rattle.graph.proofs.Reading.{reads-outs, reads-ins}
 use Rattle.search.specs.Searching.{World, Standing}
 
 pub record Fit (n : ℕ) (a : Arc) : Type 0 where

@@ -1,6 +1,6 @@
 -- The links are taken in, the changes made, and the list read from what they leave.
 use native.Mathlib.Omega.{arith}
-use Rattle.graph.specs.Memory.{touches}
+use Rattle.lists.specs.Memory.{touches}
 use Rattle.input_graph.proofs.Accepted.{accepted-between}
 use Rattle.graph.proofs.LinksIn.{never-full}
 use Rattle.graphs.proofs.Listing.{spacious, list-reads, list-short}

@@ -5,9 +5,9 @@ use Prim.Native.Nat.{_+_, _*_, _<_, _≤_}
 use native.Mathlib.Omega.{arith}
 use lib.ListN.{length}
 use Rattle.rules.specs.Graph.{Arc}
-use Rattle.graph.specs.Memory.{memory}
-use Rattle.graph.specs.Walks.{column, Reads, steps}
-use Rattle.graph.proofs.Reading.{reads-nearer}
+use Rattle.lists.specs.Memory.{memory}
+use Rattle.lists.specs.Walks.{column, Reads, steps}
+use Rattle.lists.proofs.Walks.{reads-nearer}
 use Rattle.graphs.specs.Promises.{Row}
 use Rattle.graphs.proofs.Copying.{Rest, rest-all, rest-row, rest-on, rest-done}
 use Rattle.graphs.proofs.write_rows.Statement.{statement}

@@ -3,7 +3,7 @@ use mathlib.Core.Path.{_≡_, refl, _∙_}
 use Prim.Native.Nat.{_+_, _*_, _≤_, _<_}
 use native.Mathlib.Omega.{arith}
 use lib.ListN.{length}
-use Rattle.graph.specs.Walks.{column, steps}
+use Rattle.lists.specs.Walks.{column, steps}
 use Rattle.search.specs.Searching.{lent}
 use Rattle.search.specs.Promises.{Each}
 use Rattle.searches.specs.Rounds.{Leaving}

@@ -5,8 +5,9 @@ use Prim.Native.Nat.{ℕ, _<_}
 use native.Mathlib.Omega.{arith}
 use Rattle.rules.specs.Graph.{Arc}
 use Rattle.graph.specs.declared.preparation_graph.Pool.{Pool}
-use Rattle.graph.specs.Memory.{Memory}
-use Rattle.graph.specs.Promises.{Takes, Addable}
+use Rattle.lists.specs.Memory.{Memory}
+use Rattle.lists.specs.Promises.{Takes}
+use Rattle.graph.specs.Promises.{Addable}
 use Rattle.graph.proofs.Answering.{answers-came, answers-full}
 use Rattle.graph.proofs.Standing.{takes, freed-below, stands-reused, stands-fresh, pool-full}
 use borrow.Author.Needs.{needs}
@@ -14,7 +15,7 @@ use Rattle.graph.proofs.preparation_graph.add_edge_or_shortcut.Statemen
 use Rattle.graph.proofs.preparation_graph.add_edge_or_shortcut.Tie as tie
 use Rattle.graph.proofs.preparation_graph.add_edge_or_shortcut.Reads as reads
 use Rattle.graph.proofs.preparation_graph.add_edge_or_shortcut.Lts as lts
-use Rattle.graph.proofs.preparation_graph.put_arc.Reads as put-arc-reads
+use Rattle.lists.proofs.put_arc.Reads as put-arc-reads
 
 addable-takes : {n pool p : ℕ} {m : Memory} {w : List ℕ} {state : Pool} {a : Arc} {g : List Arc} → Addable n pool m w state a g → p < pool → Takes m w p a
 addable-takes r below = takes (r .stands .placed) _ (r .stands .weights-room) _ below _ (r .tail-in) (r .head-in)

@@ -1,7 +1,7 @@
 -- `disconnect` meets its contract: the arcs that leave go first, then those that enter.
 use mathlib.Core.Path.{_∙_}
 use native.Mathlib.Omega.{arith}
-use Rattle.graph.specs.Walks.{untouched}
+use Rattle.graph.specs.Promises.{untouched}
 use Rattle.graph.proofs.Removing.{disconnected}
 use Rattle.graph.proofs.preparation_graph.disconnect.Statement.{statement}
 use Rattle.graph.proofs.preparation_graph.disconnect.Tie as tie

@@ -8,7 +8,7 @@ use lib.ListN.{length, take}
 use Rattle.rules.specs.Columns.{linkList}
 use Rattle.rules.specs.Build.{link-arc}
 use Rattle.input_graph.specs.Given.{links, Between}
-use Rattle.graph.specs.Memory.{memory}
+use Rattle.lists.specs.Memory.{memory}
 use Rattle.graph.specs.Stands.{Stands}
 use Rattle.graph.proofs.LinksIn.{next-addable, next-came, next-full, all-came}
 use Rattle.graph.proofs.preparation_graph.from_input_graph.Statement.{statement}

@@ -6,8 +6,8 @@ use native.Mathlib.Omega.{arith}
 use lib.ListN.{length}
 use Rattle.rules.specs.Graph.{Arc}
 use Rattle.graph.specs.declared.preparation_graph.Pool.{Pool}
-use Rattle.graph.specs.Memory.{memory}
-use Rattle.graph.specs.Promises.{arc, Addable}
+use Rattle.lists.specs.Memory.{memory, arc}
+use Rattle.graph.specs.Promises.{Addable}
 use Rattle.graph.proofs.Reading.{outs-walk}
 use Rattle.graph.proofs.Reducing.{place, place-room, reduces-none, reduces-not, reduces-it}
 use borrow.Author.Needs.{needs}
@@ -15,7 +15,7 @@ use Rattle.graph.proofs.preparation_graph.reduce_edge.Statement.{statem
 use Rattle.graph.proofs.preparation_graph.reduce_edge.Tie as tie
 use Rattle.graph.proofs.preparation_graph.reduce_edge.Reads as reads
 use Rattle.graph.proofs.preparation_graph.reduce_edge.Lts as lts
-use Rattle.graph.proofs.preparation_graph.find_arc.Reads as find-arc-reads
+use Rattle.lists.proofs.find_arc.Reads as find-arc-reads
 
 mul-find-arc : tie.Need-mul-find-arc
 mul-find-arc c = search needs

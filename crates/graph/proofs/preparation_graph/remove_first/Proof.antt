@@ -7,19 +7,20 @@ use lib.ListN.{length, length-set}
 use Rattle.rules.specs.Numbers.{invalid}
 use Rattle.rules.specs.Lists.{keep}
 use Rattle.rules.specs.Graph.{Arc}
-use Rattle.graph.specs.Memory.{Memory, memory, at, first, ends-at}
+use Rattle.lists.specs.Memory.{Memory, memory, at, first, ends-at}
 use Rattle.graph.specs.Stands.{Stands}
-use Rattle.graph.specs.Steps.{set-at, unlink, remove}
-use Rattle.graph.specs.Walks.{before}
-use Rattle.graph.specs.Promises.{Room, state-of}
+use Rattle.lists.specs.Steps.{set-at, unlink, remove}
+use Rattle.lists.specs.Walks.{before}
+use Rattle.lists.specs.Promises.{Room}
+use Rattle.graph.specs.Promises.{state-of}
 use Rattle.graph.proofs.Removing.{place-room, far-inside, far-open, beyond-walk, in-beyond, stands-removed}
 use borrow.Author.Needs.{needs}
 use Rattle.graph.proofs.preparation_graph.remove_first.Statement.{statement}
 use Rattle.graph.proofs.preparation_graph.remove_first.Tie as tie
 use Rattle.graph.proofs.preparation_graph.remove_first.Reads as reads
 use Rattle.graph.proofs.preparation_graph.remove_first.Lts as lts
-use Rattle.graph.proofs.preparation_graph.predecessor.Reads as predecessor-reads
-use Rattle.graph.proofs.preparation_graph.unlink.Reads as unlink-reads
+use Rattle.lists.proofs.predecessor.Reads as predecessor-reads
+use Rattle.lists.proofs.unlink.Reads as unlink-reads
 
 -- of the graph that the caller knows of: the place is in the slice, and the other end of its arc is a node
 room : (s : tie.Start) → Room (memory (s .args .arcs .now) (s .args .nodes .now)) (first (memory (s .args .arcs .now) (s .args .nodes .now)) (s .args .side) (s .args .node))

@@ -4,8 +4,8 @@ use mathlib.Core.Path.{_≡_, refl, _∙_}
 use Prim.Native.Nat.{_+_, _*_, _≤_}
 use native.Mathlib.Omega.{arith}
 use lib.ListN.{length}
-use Rattle.graph.specs.Memory.{memory, first}
-use Rattle.graph.specs.Walks.{column, steps}
+use Rattle.lists.specs.Memory.{memory, first}
+use Rattle.lists.specs.Walks.{column, steps}
 use Rattle.graph.specs.Promises.{HoldsSome}
 use Rattle.graph.proofs.Removing.{Fewer, fewer-not, fewer-on, fewer-all, fewer-holds, removed-nearer}
 use Rattle.graph.proofs.preparation_graph.remove_side.Statement.{statement}

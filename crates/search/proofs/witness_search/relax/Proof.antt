@@ -3,7 +3,7 @@
 use mathlib.Core.Path.{_≡_, refl, _∙_}
 use native.Mathlib.Omega.{arith}
 use lib.ListN.{length}
-use Rattle.graph.specs.Walks.{steps}
+use Rattle.lists.specs.Walks.{steps}
 use Rattle.search.specs.Promises.{Each, Usable, Relaxing}
 use Rattle.search.proofs.Rows.{link, Rest, rest-all, first-usable, first-offering, walk-falls, rest-on, rest-done}
 use Rattle.search.proofs.witness_search.relax.Statement.{statement}

@@ -7,8 +7,8 @@ use borrow.Author.Tests.{eq-eqb, ne-eqb}
 use Rattle.rules.specs.Numbers.{invalid}
 use Rattle.rules.specs.Lists.{In}
 use Rattle.rules.proofs.Members.{in-rest}
-use Rattle.graph.specs.Walks.{column, Walk, before, found}
-use Rattle.graph.proofs.Reading.{walk-on, walk-end}
+use Rattle.lists.specs.Walks.{column, Walk, before, found}
+use Rattle.lists.proofs.Walks.{walk-on, walk-end}
 
 -- the walk from `at` on goes through p, and `answer` is what stands before it, b where it is the first
 pub record Ahead (arcs : List ℕ) (s p b at answer : ℕ) : Type 0 where

@@ -1,14 +1,14 @@
 -- `append` meets its contract: its stores are those of the definition, with `follow` between them.
 use mathlib.Core.Path.{ap, _∙_}
 use lib.ListN.{length-set}
-use Rattle.graph.specs.Memory.{Memory}
-use Rattle.graph.specs.Steps.{append, set-last}
+use Rattle.lists.specs.Memory.{Memory}
+use Rattle.lists.specs.Steps.{append, set-last}
 use borrow.Author.Needs.{needs}
-use Rattle.graph.proofs.preparation_graph.append.Statement.{statement}
-use Rattle.graph.proofs.preparation_graph.append.Tie as tie
-use Rattle.graph.proofs.preparation_graph.append.Reads as reads
-use Rattle.graph.proofs.preparation_graph.append.Lts as lts
-use Rattle.graph.proofs.preparation_graph.follow.Reads as follow-reads
+use Rattle.lists.proofs.append.Statement.{statement}
+use Rattle.lists.proofs.append.Tie as tie
+use Rattle.lists.proofs.append.Reads as reads
+use Rattle.lists.proofs.append.Lts as lts
+use Rattle.lists.proofs.follow.Reads as follow-reads
 
 mul-end : tie.Need-mul-end
 mul-end c = search needs

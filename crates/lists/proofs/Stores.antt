@@ -1,6 +1,6 @@
 -- What a store changes, and what it leaves.
-use mathlib.Core.Path.{_≡_, refl, sym, ap, _∙_}
-use mathlib.Core.Bool.{Bool, true, false}
+use mathlib.Core.Path.{_≡_, refl, sym, _∙_}
+use mathlib.Core.Bool.{true, false}
 use mathlib.Core.List.{List}
 use Prim.Native.Nat.{ℕ, _+_, _*_, _≤_, _<_}
 use native.Mathlib.Omega.{arith}
@@ -10,9 +10,9 @@ use lib.Seq.{getD-set-same, getD-set-other}
 use borrow.Author.Tests.{eqb-true, eqb-false, eq-eqb, ne-eqb}
 use Rattle.rules.specs.Numbers.{invalid}
 use Rattle.rules.proofs.Cases.{on-test}
-use Rattle.graph.specs.Memory.{Memory, memory, at, first, last}
-use Rattle.graph.specs.Promises.{Open}
-use Rattle.graph.specs.Steps.{set-at, set-first, set-last, follow, append, unlink}
+use Rattle.lists.specs.Memory.{Memory, at, first, last}
+use Rattle.lists.specs.Promises.{Open}
+use Rattle.lists.specs.Steps.{set-at, set-first, set-last, follow, append, unlink}
 
 module _ (m : Memory) (k i x : ℕ) where
   pub at-same : 6 * i + k < length (m .arcs) → at (set-at m k i x) k i ≡ x

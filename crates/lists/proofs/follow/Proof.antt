@@ -3,12 +3,12 @@ use mathlib.Core.Path.{refl}
 use native.Mathlib.Omega.{arith}
 use borrow.Author.Tests.{eq-eqb, ne-eqb}
 use Rattle.rules.specs.Numbers.{invalid}
-use Rattle.graph.specs.Steps.{follow}
+use Rattle.lists.specs.Steps.{follow}
 use borrow.Author.Needs.{needs}
-use Rattle.graph.proofs.preparation_graph.follow.Statement.{statement}
-use Rattle.graph.proofs.preparation_graph.follow.Tie as tie
-use Rattle.graph.proofs.preparation_graph.follow.Reads as reads
-use Rattle.graph.proofs.preparation_graph.follow.Lts as lts
+use Rattle.lists.proofs.follow.Statement.{statement}
+use Rattle.lists.proofs.follow.Tie as tie
+use Rattle.lists.proofs.follow.Reads as reads
+use Rattle.lists.proofs.follow.Lts as lts
 
 mul-nodes : tie.Need-mul-nodes
 mul-nodes c = search needs

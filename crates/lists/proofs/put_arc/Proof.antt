@@ -3,16 +3,16 @@ use mathlib.Core.List.{List}
 use mathlib.Core.Path.{refl, ap, _∙_}
 use Prim.Native.Nat.{ℕ}
 use native.Mathlib.Omega.{arith}
-use Rattle.graph.specs.Memory.{Memory, memory}
-use Rattle.graph.specs.Steps.{append, put}
-use Rattle.graph.proofs.Stores.{Beside, beside-append, open-long, open-beside}
+use Rattle.lists.specs.Memory.{Memory, memory}
+use Rattle.lists.specs.Steps.{append, put}
+use Rattle.lists.proofs.Stores.{Beside, beside-append, open-long, open-beside}
 use borrow.Author.Needs.{needs}
-use Rattle.graph.proofs.preparation_graph.put_arc.Statement.{statement}
-use Rattle.graph.proofs.preparation_graph.put_arc.Tie as tie
-use Rattle.graph.proofs.preparation_graph.put_arc.Reads as reads
-use Rattle.graph.proofs.preparation_graph.put_arc.Lts as lts
-use Rattle.graph.proofs.preparation_graph.append.Reads as append-reads
-use Rattle.graph.proofs.preparation_graph.write_arc.Reads as write-arc-reads
+use Rattle.lists.proofs.put_arc.Statement.{statement}
+use Rattle.lists.proofs.put_arc.Tie as tie
+use Rattle.lists.proofs.put_arc.Reads as reads
+use Rattle.lists.proofs.put_arc.Lts as lts
+use Rattle.lists.proofs.append.Reads as append-reads
+use Rattle.lists.proofs.write_arc.Reads as write-arc-reads
 
 write-arc-requires : tie.Need-write-arc-requires
 write-arc-requires c κs = search needs

@@ -11,8 +11,8 @@ use Rattle.rules.specs.Numbers.{invalid}
 use Rattle.rules.specs.Lists.{In, keep}
 use Rattle.rules.proofs.Members.{in-rest}
 use Rattle.rules.proofs.Lists.{Distinct, without, other-true, other-same, without-absent}
-use Rattle.graph.specs.Memory.{Chain, last-of}
-use Rattle.graph.specs.Walks.{before, steps}
+use Rattle.lists.specs.Memory.{Chain, last-of}
+use Rattle.lists.specs.Walks.{before, steps}
 
 -- none of these is the mark
 abbrev pub Valid : List ℕ → Type 0

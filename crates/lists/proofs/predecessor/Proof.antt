@@ -7,13 +7,13 @@ use native.Mathlib.Omega.{arith}
 use lib.ListN.{length, getD}
 use Rattle.rules.specs.Numbers.{invalid}
 use Rattle.rules.specs.Lists.{In}
-use Rattle.graph.specs.Walks.{column, Walk, steps, before as before-in}
-use Rattle.graph.proofs.Reading.{walk-room, walk-nearer}
-use Rattle.graph.proofs.Walking.{Ahead, ahead-valid, ahead-here, ahead-on}
-use Rattle.graph.proofs.preparation_graph.predecessor.Statement.{statement}
-use Rattle.graph.proofs.preparation_graph.predecessor.Tie as tie
-use Rattle.graph.proofs.preparation_graph.predecessor.Reads as reads
-use Rattle.graph.proofs.preparation_graph.predecessor.Lts as lts
+use Rattle.lists.specs.Walks.{column, Walk, steps, before as before-in}
+use Rattle.lists.proofs.Walks.{walk-room, walk-nearer}
+use Rattle.lists.proofs.Walking.{Ahead, ahead-valid, ahead-here, ahead-on}
+use Rattle.lists.proofs.predecessor.Statement.{statement}
+use Rattle.lists.proofs.predecessor.Tie as tie
+use Rattle.lists.proofs.predecessor.Reads as reads
+use Rattle.lists.proofs.predecessor.Lts as lts
 
 abbrev Inv-loop : tie.InvT-loop
 Inv-loop arcs side start place before₀ at₀ before at =

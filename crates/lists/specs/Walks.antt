@@ -1,14 +1,14 @@
 -- A walk along a chain, and what it comes upon.
-use mathlib.Core.Bool.{Bool, true, false, not}
+use mathlib.Core.Bool.{Bool, true, false}
 use mathlib.Core.List.{List, [], _∷_, map}
 use mathlib.Core.Path.{_≡_}
 use Prim.Native.Nat.{ℕ, zero, suc, _+_, _*_, _<_, _≤_}
 use lib.Dec.{eqb}
 use lib.ListN.{length, getD}
 use Rattle.rules.specs.Numbers.{invalid}
-use Rattle.rules.specs.Lists.{In, keep}
+use Rattle.rules.specs.Lists.{In}
 use Rattle.rules.specs.Graph.{Arc}
-use Rattle.graph.specs.Memory.{Memory, arc-at, touches, Chain}
+use Rattle.lists.specs.Memory.{Memory, arc-at, Chain}
 
 -- number k of each place
 abbrev pub column : List ℕ → ℕ → ℕ → ℕ
@@ -42,12 +42,3 @@ found p (i ∷ l) = elim (p i) [ true ↦ i | false ↦ found p l ]
 unfoldable pub steps : (ℕ → ℕ) → ℕ → ℕ → ℕ
 steps next zero start = 0
 steps next (suc most) start = elim (eqb start invalid) [ true ↦ 0 | false ↦ suc (steps next most (next start)) ]
-
--- all but the first that passes
-unfoldable pub drop-first {ℓ} : {A : Type ℓ} → (A → Bool) → List A → List A
-drop-first p [] = []
-drop-first p (x ∷ l) = elim (p x) [ true ↦ l | false ↦ x ∷ drop-first p l ]
-
--- the arcs that have not their end of side s at v
-unfoldable pub untouched : ℕ → ℕ → List Arc → List Arc
-untouched s v g = keep (λ a. not (touches s v a)) g

@@ -28,6 +28,9 @@ first m s v = getD (m .nodes) (4 * v + 2 * s) 0
 abbrev pub last : Memory → ℕ → ℕ → ℕ
 last m s v = getD (m .nodes) (4 * v + (2 * s + 1)) 0
 
+abbrev pub arc : ℕ → ℕ → ℕ → ℕ → Arc
+arc t h w c = record { tail = t; head = h; weight = w; centre = c }
+
 abbrev pub arc-at : Memory → List ℕ → ℕ → Arc
 arc-at m weights i = record { tail = at m 0 i; head = at m 1 i; weight = getD weights i 0; centre = at m 2 i }
 

@@ -1,12 +1,12 @@
 -- The stores of the smallest steps.
-use mathlib.Core.Bool.{Bool, true, false}
+use mathlib.Core.Bool.{true, false}
 use mathlib.Core.List.{List}
 use Prim.Native.Nat.{ℕ, _+_, _*_, _-_}
 use lib.Dec.{eqb}
 use lib.ListN.{set}
 use Rattle.rules.specs.Numbers.{invalid}
 use Rattle.rules.specs.Graph.{Arc}
-use Rattle.graph.specs.Memory.{Memory, memory, at, last}
+use Rattle.lists.specs.Memory.{Memory, memory, at, last}
 
 abbrev pub set-at : Memory → ℕ → ℕ → ℕ → Memory
 set-at m k i x = memory (set (m .arcs) (6 * i + k) x) (m .nodes)

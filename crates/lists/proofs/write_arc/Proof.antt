@@ -3,12 +3,12 @@ use mathlib.Core.Path.{refl}
 use native.Mathlib.Nat.{add-zero}
 use native.Mathlib.Omega.{arith}
 use lib.ListN.{length-set}
-use Rattle.graph.specs.Steps.{write}
+use Rattle.lists.specs.Steps.{write}
 use borrow.Author.Needs.{needs}
-use Rattle.graph.proofs.preparation_graph.write_arc.Statement.{statement}
-use Rattle.graph.proofs.preparation_graph.write_arc.Tie as tie
-use Rattle.graph.proofs.preparation_graph.write_arc.Reads as reads
-use Rattle.graph.proofs.preparation_graph.write_arc.Lts as lts
+use Rattle.lists.proofs.write_arc.Statement.{statement}
+use Rattle.lists.proofs.write_arc.Tie as tie
+use Rattle.lists.proofs.write_arc.Reads as reads
+use Rattle.lists.proofs.write_arc.Lts as lts
 
 mul-arcs : tie.Need-mul-arcs
 mul-arcs c = search needs

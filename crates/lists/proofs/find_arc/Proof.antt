@@ -9,13 +9,13 @@ use lib.Dec.{eqb}
 use lib.ListN.{length}
 use borrow.Author.Tests.{eq-eqb, ne-eqb}
 use Rattle.rules.specs.Numbers.{invalid}
-use Rattle.graph.specs.Walks.{column, Walk, found, steps}
-use Rattle.graph.proofs.Reading.{walk-room, walk-nearer}
-use Rattle.graph.proofs.Walking.{Seeking, sought-none, sought-here, seek-on}
-use Rattle.graph.proofs.preparation_graph.find_arc.Statement.{statement}
-use Rattle.graph.proofs.preparation_graph.find_arc.Tie as tie
-use Rattle.graph.proofs.preparation_graph.find_arc.Reads as reads
-use Rattle.graph.proofs.preparation_graph.find_arc.Lts as lts
+use Rattle.lists.specs.Walks.{column, Walk, found, steps}
+use Rattle.lists.proofs.Walks.{walk-room, walk-nearer}
+use Rattle.lists.proofs.Walking.{Seeking, sought-none, sought-here, seek-on}
+use Rattle.lists.proofs.find_arc.Statement.{statement}
+use Rattle.lists.proofs.find_arc.Tie as tie
+use Rattle.lists.proofs.find_arc.Reads as reads
+use Rattle.lists.proofs.find_arc.Lts as lts
 
 -- the arc at i leads to `head`
 abbrev heads : List ℕ → ℕ → ℕ → Bool

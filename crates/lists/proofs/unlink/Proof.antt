@@ -4,15 +4,15 @@ use Prim.Native.Nat.{_+_}
 use lib.ListN.{length-set}
 use borrow.Author.Tests.{eq-eqb, ne-eqb}
 use Rattle.rules.specs.Numbers.{invalid}
-use Rattle.graph.specs.Memory.{Memory}
-use Rattle.graph.specs.Walks.{column}
-use Rattle.graph.specs.Steps.{unlink, set-last}
+use Rattle.lists.specs.Memory.{Memory}
+use Rattle.lists.specs.Walks.{column}
+use Rattle.lists.specs.Steps.{unlink, set-last}
 use borrow.Author.Needs.{needs}
-use Rattle.graph.proofs.preparation_graph.unlink.Statement.{statement}
-use Rattle.graph.proofs.preparation_graph.unlink.Tie as tie
-use Rattle.graph.proofs.preparation_graph.unlink.Reads as reads
-use Rattle.graph.proofs.preparation_graph.unlink.Lts as lts
-use Rattle.graph.proofs.preparation_graph.follow.Reads as follow-reads
+use Rattle.lists.proofs.unlink.Statement.{statement}
+use Rattle.lists.proofs.unlink.Tie as tie
+use Rattle.lists.proofs.unlink.Reads as reads
+use Rattle.lists.proofs.unlink.Lts as lts
+use Rattle.lists.proofs.follow.Reads as follow-reads
 
 mul-next : tie.Need-mul-next
 mul-next c = search needs
