@@ -3,6 +3,7 @@ pub mod Sides
 pub mod Places
 pub mod Standing
 pub mod Reading
+pub mod Staying
 pub mod Reducing
 pub mod Removing
 pub mod Answering

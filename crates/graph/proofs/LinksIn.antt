@@ -1,5 +1,5 @@
 -- The first links, as arcs.
-use mathlib.Core.List.{List, [], _∷_, _++_, map, map-append}
+use mathlib.Core.List.{List, [], _∷_, _++_, map, map-append, cons-eq-cons}
 use mathlib.Core.Path.{_≡_, sym, ap, _∙_}
 use Prim.Native.Nat.{ℕ, _+_, _≤_, _<_}
 use native.Mathlib.Numerals.{add-one}
@@ -7,7 +7,7 @@ use native.Mathlib.Omega.{arith}
 use lib.ListN.{length, getD, take, length-map, length-take}
 use lib.Seq.{take-suc, take-all, drop-cons}
 use Rattle.rules.specs.Numbers.{invalid}
-use Rattle.rules.specs.Columns.{Link, linkList}
+use Rattle.rules.specs.Columns.{linkList}
 use Rattle.rules.specs.Graph.{Arc}
 use Rattle.rules.specs.Build.{link-arc, graph-of}
 use Rattle.input_graph.specs.Given.{link, links, Even, Between}
@@ -25,10 +25,7 @@ module _ (ts hs ws : List ℕ) (even : Even ts hs ws) where
 
   link-at : (i : ℕ) → i < length ts → getD (linkList (links ts hs ws)) i (link 0 0 0) ≡ at ts hs ws even i
   link-at i h =
-      head-is (sym (drop-cons (linkList (links ts hs ws)) i (link 0 0 0) (omega (arith, link-count ts hs ws even))) ∙ from-link ts hs ws even i h)
-    where
-      head-is : {x y : Link} {xs ys : List Link} → x ∷ xs ≡ y ∷ ys → x ≡ y
-      head-is e = cc
+      cons-eq-cons .0 (sym (drop-cons (linkList (links ts hs ws)) i (link 0 0 0) (omega (arith, link-count ts hs ws even))) ∙ from-link ts hs ws even i h) .0
 
   pub one-more : (i : ℕ) → i < length ts → so-far i ++ (arc (getD ts i 0) (getD hs i 0) (getD ws i 0) invalid ∷ []) ≡ so-far (i + 1)
   unfolding link-arc
@@ -64,10 +61,10 @@ module _ {n pool : ℕ} {m : Memory} {w : List ℕ} {state : Pool} (ts hs ws : L
   pub next-addable : i < length ts → Addable n pool m w state next-arc (so-far ts hs ws (b .even) i)
   next-addable h = record { stands = stands; tail-in = b .tails i h; head-in = b .heads i h }
 
-  module _ {m′ : Memory} {w′ : List ℕ} {r : Added} (h : i < length ts)
-      (answers : Answers n pool m w m′ w′ (so-far ts hs ws (b .even) i ++ (next-arc ∷ [])) r) where
+  module _ {m′ : Memory} {w′ places : List ℕ} {r : Added} (h : i < length ts)
+      (answers : Answers n pool m w m′ w′ places (so-far ts hs ws (b .even) i ++ (next-arc ∷ [])) r) where
     pub next-came : (next : Pool) → r ≡ Came next → Stands n pool m′ w′ next (so-far ts hs ws (b .even) (i + 1))
-    next-came next e = rw (one-more ts hs ws (b .even) i h) at (answers .came next e)
+    next-came next e = rw (one-more ts hs ws (b .even) i h) at (answers .came next e .stands)
 
     pub next-full : r ≡ Full → Holds n pool m′ w′ (graph-of (links ts hs ws)) Full
     next-full e =

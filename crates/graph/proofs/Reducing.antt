@@ -1,7 +1,7 @@
 -- The first arc of the same ends, found in its tail's list, is the one that `addOrReduce` reduces.
 use mathlib.Core.Path.{_≡_, refl, sym, ap, _∙_}
 use mathlib.Core.Bool.{Bool, true, false, _&&_, true≢false, false≢true}
-use mathlib.Core.List.{List, [], _∷_, _++_, map, List·Memᴰ·head, List·Memᴰ·tail}
+use mathlib.Core.List.{List, [], _∷_, _++_, map, append-nil, List·Memᴰ·head, List·Memᴰ·tail}
 use Prim.Native.Nat.{ℕ, _+_, _*_, _≤_, _<_}
 use native.Mathlib.Omega.{arith}
 use lib.Dec.{eqb}
@@ -16,7 +16,7 @@ use Rattle.rules.proofs.Arcs.{same-arc, joined-ends}
 use Rattle.rules.proofs.Lists.{keep-same, map-same, Distinct}
 use Rattle.graph.specs.declared.preparation_graph.Pool.{Pool}
 use Rattle.lists.specs.Memory.{Memory, at, arc-at, ends-at}
-use Rattle.graph.specs.Stands.{Placed, Stands}
+use Rattle.graph.specs.Stands.{Placed, Stands, Extends}
 use Rattle.lists.specs.Steps.{set-at}
 use Rattle.lists.specs.Walks.{found}
 use Rattle.graph.specs.Promises.{Reduces}
@@ -81,6 +81,10 @@ module _ (s : Arc) (f : ℕ → Arc) where
       let here : f′ i ≡ f i = same′ i (List·Memᴰ·head refl) (λ e. d .0 (rw e (found-in (λ i. joins s (f i)) l h′ .0))) in
       rw (t, addOrReduce) (r .0, λ k. sym here k ∷ r .1 k))
 
+-- no place came or went
+in-place : {n pool : ℕ} {m : Memory} {w : List ℕ} {state : Pool} {g : List Arc} (x : Stands n pool m w state g) → Extends n pool m w state g (x .ids)
+in-place x = record { stands = x; more = []; same-places = sym (append-nil (x .ids)) }
+
 -- a centre is no link and no end
 pub placed-centre : {n pool : ℕ} {m : Memory} {state : Pool} {ids freed : List ℕ} (i x : ℕ) → Placed n pool m state ids freed → Placed n pool (set-at m 2 i x) state ids freed
 placed-centre {n} {pool} {m} {state} {ids} {freed} i x here = record {
@@ -114,7 +118,7 @@ module _ {n pool : ℕ} {m : Memory} {w : List ℕ} {state : Pool} {g : List Arc
   none-here : place ≡ invalid → (any (joins s) g ≡ false) × (addOrReduce s g ≡ g ++ s ∷ [])
   none-here e = rw (here .arcs) (none-joins s (arc-at m w) (here .ids) (valid (here .placed)) (sym place-joins ∙ e))
 
-  pub reduces-none : place ≡ invalid → Reduces n pool m w m w state s g false
+  pub reduces-none : place ≡ invalid → Reduces n pool m w m w state (here .ids) s g false
   reduces-none e = record {
     found = none-here e .0;
     reduced = λ t. absurd (false≢true t);
@@ -122,7 +126,7 @@ module _ {n pool : ℕ} {m : Memory} {w : List ℕ} {state : Pool} {g : List Arc
     same = λ _. record { memory-same = refl; weights-same = refl };
   }
 
-  reduces-one : {m′ : Memory} {w′ : List ℕ} → any (joins s) g ≡ true → Stands n pool m′ w′ state (addOrReduce s g) → Reduces n pool m w m′ w′ state s g true
+  reduces-one : {m′ : Memory} {w′ : List ℕ} → any (joins s) g ≡ true → Extends n pool m′ w′ state (addOrReduce s g) (here .ids) → Reduces n pool m w m′ w′ state (here .ids) s g true
   reduces-one e there = record {
     found = e;
     reduced = λ _. there;
@@ -149,28 +153,29 @@ module _ {n pool : ℕ} {m : Memory} {w : List ℕ} {state : Pool} {g : List Arc
         (λ i _ d. same i (λ e. d (e ∙ place-joins))))
 
     -- it weighs no more, and is kept
-    pub reduces-not : getD w place 0 ≤ s .weight → Reduces n pool m w m w state s g true
+    pub reduces-not : getD w place 0 ≤ s .weight → Reduces n pool m w m w state (here .ids) s g true
     unfolding reduce
     reduces-not h =
         let r = after-reduce (arc-at m w) (rw (le-leb (getD w place 0) (s .weight) h, reduce) refl) (λ i d. refl) in
         reduces-one (r .0)
-        (record { ids = here .ids; freed = here .freed; placed = here .placed; arcs = r .1; weights-room = here .weights-room })
+        (in-place (record { ids = here .ids; freed = here .freed; placed = here .placed; arcs = r .1; weights-room = here .weights-room }))
 
     -- it is heavier, and takes the weight and the centre
-    pub reduces-it : s .weight < getD w place 0 → Reduces n pool m w (set-at m 2 place (s .centre)) (set w place (s .weight)) state s g true
+    pub reduces-it : s .weight < getD w place 0 → Reduces n pool m w (set-at m 2 place (s .centre)) (set w place (s .weight)) state (here .ids) s g true
     unfolding reduce
     reduces-it h =
         let m′ = set-at m 2 place (s .centre) in
         let w′ = set w place (s .weight) in
         let r = after-reduce (arc-at m′ w′) (rw (lt-leb (getD w place 0) (s .weight) h, reduce) now) others in
         reduces-one (r .0)
+        (in-place
         (record {
           ids = here .ids;
           freed = here .freed;
           placed = placed-centre place (s .centre) (here .placed);
           arcs = r .1;
           weights-room = rw length-set (here .weights-room);
-        })
+        }))
       where
         kept : (k i : ℕ) → k < 2 → at (set-at m 2 place (s .centre)) k i ≡ at m k i
         kept k i h = at-other m 2 place (s .centre) i k (omega arith) (omega arith) (λ e. omega (arith, e .1))

@@ -14,7 +14,7 @@ use Rattle.rules.proofs.Members.{in-keep}
 use Rattle.rules.proofs.Lists.{map-same, Distinct, to-distinct, distinct-parts, distinct-insert}
 use Rattle.graph.specs.declared.preparation_graph.Pool.{Pool}
 use Rattle.lists.specs.Memory.{Memory, memory, at, last, arc-at, ends-at, Chain, last-of}
-use Rattle.graph.specs.Stands.{Placed, Stands}
+use Rattle.graph.specs.Stands.{Placed, Stands, Extends}
 use Rattle.lists.specs.Promises.{Open, Takes}
 use Rattle.lists.specs.Steps.{put}
 use Rattle.lists.proofs.Chains.{chain-same, chain-empty, chain-first, last-in}
@@ -133,18 +133,23 @@ module _ {n pool : ℕ} {m : Memory} {w : List ℕ} {old : Pool} {g : List Arc} 
   pl = here .placed
 
   stands-put : (p : ℕ) (absent : In p (here .ids) → ⊥) (below : p < pool) (state : Pool) (rest : List ℕ)
-      → Placed n pool (put m p a) state (here .ids ++ p ∷ []) rest → Stands n pool (put m p a) (set w p (a .weight)) state (g ++ a ∷ [])
+      → Placed n pool (put m p a) state (here .ids ++ p ∷ []) rest → Extends n pool (put m p a) (set w p (a .weight)) state (g ++ a ∷ []) (here .ids)
   stands-put p absent below state rest placed = record {
-    ids = here .ids ++ p ∷ [];
-    freed = rest;
-    placed = placed;
-    arcs = rw (here .arcs) (sym (put-arcs pl p absent below a tail-in head-in w (here .weights-room)));
-    weights-room = rw length-set (here .weights-room);
+    stands =
+        record {
+          ids = here .ids ++ p ∷ [];
+          freed = rest;
+          placed = placed;
+          arcs = rw (here .arcs) (sym (put-arcs pl p absent below a tail-in head-in w (here .weights-room)));
+          weights-room = rw length-set (here .weights-room);
+        };
+    more = p ∷ [];
+    same-places = refl;
   }
 
   -- the first of the freed places is used again
   pub stands-reused : (old .free ≡ invalid → ⊥)
-      → Stands n pool (put m (old .free) a) (set w (old .free) (a .weight)) (record { free = at m 5 (old .free); fresh = old .fresh }) (g ++ a ∷ [])
+      → Extends n pool (put m (old .free) a) (set w (old .free) (a .weight)) (record { free = at m 5 (old .free); fresh = old .fresh }) (g ++ a ∷ []) (here .ids)
   stands-reused h = stands-put p absent below state rest (put-placed pl p absent below a tail-in head-in state rest chain apart small count (pl .within))
     where
       p : ℕ
@@ -189,7 +194,7 @@ module _ {n pool : ℕ} {m : Memory} {w : List ℕ} {old : Pool} {g : List Arc} 
     no-freed = chain-empty (at m 5) (here .freed) (old .free) (freed-valid pl) (pl .free) none
 
     pub stands-fresh : old .fresh < pool
-        → Stands n pool (put m (old .fresh) a) (set w (old .fresh) (a .weight)) (record { free = old .free; fresh = old .fresh + 1 }) (g ++ a ∷ [])
+        → Extends n pool (put m (old .fresh) a) (set w (old .fresh) (a .weight)) (record { free = old .free; fresh = old .fresh + 1 }) (g ++ a ∷ []) (here .ids)
     stands-fresh below = stands-put p absent below state [] (put-placed pl p absent below a tail-in head-in state [] none apart small count (omega arith))
       where
         p : ℕ

@@ -11,7 +11,7 @@ use Rattle.graph.specs.declared.preparation_graph.Pool.{Pool}
 use Rattle.graph.specs.declared.preparation_graph.Added.{Added}
 use Rattle.graph.specs.declared.preparation_graph.Added.the-variants.{Arc as Came, Full}
 use Rattle.lists.specs.Memory.{Memory, touches}
-use Rattle.graph.specs.Stands.{Stands}
+use Rattle.graph.specs.Stands.{Stands, Extends}
 
 abbrev pub state-of : ℕ → ℕ → Pool
 state-of f u = record { free = f; fresh = u }
@@ -37,16 +37,16 @@ pub record Same (m : Memory) (w : List ℕ) (m′ : Memory) (w′ : List ℕ) : 
   pub memory-same : m′ ≡ m
   pub weights-same : w′ ≡ w
 
--- an arc came, and the slices hold h; or h would exceed the pool, and they are as they were
-pub record Answers (n pool : ℕ) (m : Memory) (w : List ℕ) (m′ : Memory) (w′ : List ℕ) (h : List Arc) (r : Added) : Type 0 where
-  pub came : (state : Pool) → r ≡ Came state → Stands n pool m′ w′ state h
+-- an arc came, and the slices hold h, the live places staying; or h would exceed the pool, and they are as they were
+pub record Answers (n pool : ℕ) (m : Memory) (w : List ℕ) (m′ : Memory) (w′ : List ℕ) (places : List ℕ) (h : List Arc) (r : Added) : Type 0 where
+  pub came : (state : Pool) → r ≡ Came state → Extends n pool m′ w′ state h places
   pub full : r ≡ Full → pool < length h
   pub same : r ≡ Full → Same m w m′ w′
 
 -- an arc of the same ends was there, and is reduced; or there was none, and the slices are as they were
-pub record Reduces (n pool : ℕ) (m : Memory) (w : List ℕ) (m′ : Memory) (w′ : List ℕ) (state : Pool) (a : Arc) (g : List Arc) (r : Bool) : Type 0 where
+pub record Reduces (n pool : ℕ) (m : Memory) (w : List ℕ) (m′ : Memory) (w′ : List ℕ) (state : Pool) (places : List ℕ) (a : Arc) (g : List Arc) (r : Bool) : Type 0 where
   pub found : any (joins a) g ≡ r
-  pub reduced : r ≡ true → Stands n pool m′ w′ state (addOrReduce a g)
+  pub reduced : r ≡ true → Extends n pool m′ w′ state (addOrReduce a g) places
   pub added : r ≡ false → addOrReduce a g ≡ g ++ a ∷ []
   pub same : r ≡ false → Same m w m′ w′
 

@@ -35,3 +35,9 @@ pub record Stands (n pool : ℕ) (m : Memory) (weights : List ℕ) (state : Pool
   pub placed : Placed n pool m state ids freed
   pub arcs : g ≡ map (arc-at m weights) ids
   pub weights-room : pool ≤ length weights
+
+-- they hold g, and what was at these places, in this order, still is the first of it: whoever walks along a list may go on
+pub record Extends (n pool : ℕ) (m : Memory) (weights : List ℕ) (state : Pool) (g : List Arc) (places : List ℕ) : Type 0 where
+  pub stands : Stands n pool m weights state g
+  pub more : List ℕ
+  pub same-places : stands .ids ≡ places ++ more

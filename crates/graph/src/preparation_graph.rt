@@ -59,10 +59,10 @@ pub fn add_edge_or_shortcut(
     centre: u32,
 ) -> Added
     requires { ⌜ ((n : ℕ) × (g : List Arc) × Addable n pool (memory (now arcs) (now nodes)) (now weights) state (arc tail head weight centre) g) ⌝ }
-    ensures { λ r. ⌜ ((n : ℕ) (g : List Arc) →
-        Addable n pool (memory (now (arcs .entry)) (now (nodes .entry))) (now (weights .entry)) state (arc tail head weight centre) g →
+    ensures { λ r. ⌜ ((n : ℕ) (g : List Arc)
+        (x : Addable n pool (memory (now (arcs .entry)) (now (nodes .entry))) (now (weights .entry)) state (arc tail head weight centre) g) →
         Answers n pool (memory (now (arcs .entry)) (now (nodes .entry))) (now (weights .entry)) (memory (now (arcs .exit)) (now (nodes .exit)))
-        (now (weights .exit)) (g ++ arc tail head weight centre ∷ []) r) ⌝ }
+        (now (weights .exit)) (x .stands .ids) (g ++ arc tail head weight centre ∷ []) r) ⌝ }
 {
     let free = state.free;
     let fresh = state.fresh;
@@ -93,10 +93,10 @@ pub fn reduce_edge(
 ) -> bool
     requires { ⌜ ((n pool : ℕ) × (state : State) × (g : List Arc) ×
         Addable n pool (memory (now arcs) (now nodes)) (now weights) state (arc tail head weight centre) g) ⌝ }
-    ensures { λ r. ⌜ ((n pool : ℕ) (state : State) (g : List Arc) →
-        Addable n pool (memory (now (arcs .entry)) (now (nodes .entry))) (now (weights .entry)) state (arc tail head weight centre) g →
+    ensures { λ r. ⌜ ((n pool : ℕ) (state : State) (g : List Arc)
+        (x : Addable n pool (memory (now (arcs .entry)) (now (nodes .entry))) (now (weights .entry)) state (arc tail head weight centre) g) →
         Reduces n pool (memory (now (arcs .entry)) (now (nodes .entry))) (now (weights .entry)) (memory (now (arcs .exit)) (now (nodes .entry)))
-        (now (weights .exit)) state (arc tail head weight centre) g r) ⌝ }
+        (now (weights .exit)) state (x .stands .ids) (arc tail head weight centre) g r) ⌝ }
 {
     let place = find_arc(arcs, nodes[4 * tail as usize], head);
     if place == INVALID {
@@ -165,10 +165,10 @@ pub fn add_or_reduce_edge(
     centre: u32,
 ) -> Added
     requires { ⌜ ((n : ℕ) × (g : List Arc) × Addable n pool (memory (now arcs) (now nodes)) (now weights) state (arc tail head weight centre) g) ⌝ }
-    ensures { λ r. ⌜ ((n : ℕ) (g : List Arc) →
-        Addable n pool (memory (now (arcs .entry)) (now (nodes .entry))) (now (weights .entry)) state (arc tail head weight centre) g →
+    ensures { λ r. ⌜ ((n : ℕ) (g : List Arc)
+        (x : Addable n pool (memory (now (arcs .entry)) (now (nodes .entry))) (now (weights .entry)) state (arc tail head weight centre) g) →
         Answers n pool (memory (now (arcs .entry)) (now (nodes .entry))) (now (weights .entry)) (memory (now (arcs .exit)) (now (nodes .exit)))
-        (now (weights .exit)) (addOrReduce (arc tail head weight centre) g) r) ⌝ }
+        (now (weights .exit)) (x .stands .ids) (addOrReduce (arc tail head weight centre) g) r) ⌝ }
 {
     if reduce_edge(arcs, weights, nodes, tail, head, weight, centre) {
         return Added::Arc(state);

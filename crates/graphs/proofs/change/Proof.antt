@@ -56,7 +56,7 @@ same-length-8 c = search needs
 returns-3 : tie.Need-returns-3
 returns-3 c = λ n g x.
     let a = c .before .before .before .before .before .before .before .before .before .add-or-reduce-edge .ensures n g (addable x (c .before .before .before .before .before .before .before .before .before .before .before .before .before .if1 .left)) in
-    goes-through (with-head _ g (c .before .before .before .before .before .before .before .before .before .before .before .before .before .if1 .left)) (a .came _ (c .before .added .given .1))
+    goes-through (with-head _ g (c .before .before .before .before .before .before .before .before .before .before .before .before .before .if1 .left)) (a .came _ (c .before .added .given .1) .stands)
 
 pub change-spec : {M : Type 1} → statement M
 change-spec =

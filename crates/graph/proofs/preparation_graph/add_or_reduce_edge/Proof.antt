@@ -48,7 +48,7 @@ returns-2 c n g r =
     let a = c .before .before .before .before .before .before .before .before .before .before .before .before .before .before .before .before .before .before .before .before .before .before .args in
     let reduced = c .before .before .before .before .before .before .before .before .before .before .before .before .before .before .before .reduce-edge .ensures n (a .pool) (a .state) g r in
     let none = c .before .before .before .before .before .before .before .before .before .before .if1 .left in
-    answers-after (reduced .same none) (reduced .added none) (c .before .before .before .before .before .before .add-edge-or-shortcut .ensures n g (still-addable (reduced .same none) r))
+    answers-after (reduced .same none) r (reduced .added none) (c .before .before .before .before .before .before .add-edge-or-shortcut .ensures n g (still-addable (reduced .same none) r))
 
 pub add-or-reduce-edge-spec : {M : Type 1} → statement M
 add-or-reduce-edge-spec =
