@@ -14,6 +14,7 @@ use Rattle.rules.specs.Columns.{Hierarchy, Side, forward, backward, opposite, e
 use Rattle.rules.specs.TableRules.{TableRules}
 use Rattle.rules.specs.Query.{End, Best, improve, Label, Half, with-heap, stalls, settle, Turned, turn, Halves, round, both-empty, rounds}
 use Rattle.rules.proofs.Cases.{on-test}
+use Rattle.rules.proofs.Lists.{empty-of-length}
 use Rattle.routes.proofs.QueryOffers.{weight-at}
 use Rattle.routes.proofs.QueryState.{load, Sound, better}
 use Rattle.routes.proofs.QueryTaken.{Clear, stall-none, taken-item, pops-never-fall, pass-settled, pass-heavy, pass-stalled, settle-sound, settle-load, settle-settled, settle-falls, settle-stays, settle-own}
@@ -291,11 +292,7 @@ module _ (n : ℕ) (h : Hierarchy) (rules : TableRules n h) (ss ts : List End) w
       on-test (both-empty (q .fwd .heap) (q .bwd .heap)) (λ e. rw (e, rounds) k) (λ e. rw (e, rounds) (rounds-keep fuel (round h q) (round-keeps q k)))
 
   no-load : (q : Halves) → both-loads n h q ≤ 0 → (q .fwd .heap ≡ []) × (q .bwd .heap ≡ [])
-  no-load q none = (empty (q .fwd .heap) (omega arith), empty (q .bwd .heap) (omega arith))
-    where
-      empty : (p : List Item) → length p ≤ 0 → p ≡ []
-      empty [] e = refl
-      empty (i ∷ p) e = absurd (omega arith)
+  no-load q none = (empty-of-length (q .fwd .heap) (omega arith), empty-of-length (q .bwd .heap) (omega arith))
 
   -- fuel for all that may be taken out never runs out
   pub rounds-finish : (fuel : ℕ) (q : Halves) → Both n h ss ts q → both-loads n h q ≤ fuel →

@@ -13,6 +13,10 @@ use Rattle.rules.proofs.Cases.{on-test}
 use Rattle.rules.proofs.Decides.{and-both}
 use Rattle.rules.proofs.Members.{in-keep, in-any, any-same}
 
+pub empty-of-length : {A : Type 0} (l : List A) → length l ≡ 0 → l ≡ []
+empty-of-length [] e = refl
+empty-of-length (x ∷ l) e = absurd (omega arith)
+
 module _ {A : Type 0} where
   pub keep-same : (p q : A → Bool) (l : List A) → ((x : A) → In x l → p x ≡ q x) → keep p l ≡ keep q l
   unfolding keep

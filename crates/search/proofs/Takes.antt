@@ -1,7 +1,7 @@
 -- Laws of a turn over slices: what the tests on the slices say of the search that they stand for.
 use mathlib.Core.Path.{_≡_, refl, sym, ap, _∙_}
 use mathlib.Core.Bool.{Bool, true, false, not, _||_}
-use mathlib.Core.List.{List, [], _∷_, List·Memᴰ·head}
+use mathlib.Core.List.{List, _∷_, List·Memᴰ·head}
 use Prim.Native.Nat.{ℕ, _+_, _-_, _<_, _≤_}
 use native.Mathlib.Omega.{arith}
 use lib.Dec.{eqb, leb}
@@ -9,6 +9,7 @@ use lib.ListN.{length, drop}
 use borrow.Author.Tests.{lt-ltb, le-ltb, lt-leb, le-leb}
 use Rattle.rules.specs.Heap.{Item}
 use Rattle.rules.specs.Search.{Search, with-heap, reached}
+use Rattle.rules.proofs.Lists.{empty-of-length}
 use Rattle.routes.proofs.SearchBounds.{passed-paid, settle-paid, settle-room, settle-count}
 use Rattle.heap.specs.Items.{item}
 use Rattle.heap.specs.Promises.{Popped}
@@ -120,11 +121,7 @@ module _ {m : Lent} {base len count target sum : ℕ} {w : World} {s : Search} (
   turned-stop e = record { on = ap (λ (t : Turn). t .on) (sym e); ready = rw e (x .ready) }
 
   pub turned-empty : len ≡ 0 → Turned m base avoid target sum limit (progress len count false) w s
-  turned-empty e = turned-stop (turn-empty (w .graph) avoid target sum s limit (none (s .heap) (omega (arith, size (x .ready .searching)))))
-    where
-      none : (q : List Item) → length q ≡ 0 → q ≡ []
-      none [] h = refl
-      none (i ∷ q) h = absurd (omega arith)
+  turned-empty e = turned-stop (turn-empty (w .graph) avoid target sum s limit (empty-of-length (s .heap) (omega (arith, size (x .ready .searching)))))
 
   module _ (some : 0 < len) where
     first : s .heap ≡ item (m .heap) 0 ∷ drop 1 (s .heap)
