@@ -93,13 +93,12 @@ impl Columns {
     }
 }
 
-/// Adds and reduces more often than it disconnects, with few weights, so that all of it happens.
+/// Adds and reduces more often than it disconnects, with few weights, so that all of it happens; loops too.
 fn random_changes(numbers: &mut Rng, nodes: usize) -> Vec<Change> {
     let (count, heaviest) = (below(numbers, 3 * nodes), [2, 9, 1 << 40][below(numbers, 3)]);
     let change = |numbers: &mut Rng| {
         let from = below(numbers, nodes);
-        let to = (from + 1 + below(numbers, nodes - 1)) % nodes;
-        let to = if below(numbers, 6) == 0 { None } else { Some(to) };
+        let to = if below(numbers, 6) == 0 { None } else { Some(below(numbers, nodes)) };
         Change { from, to, weight: below(numbers, heaviest) as u64, centre: below(numbers, nodes) }
     };
     (0..count).map(|_| change(numbers)).collect()
