@@ -12,10 +12,10 @@ disconnect-requires : tie.Need-disconnect-requires
 disconnect-requires c κs = search needs
 
 same-length : tie.Need-same-length
-same-length c = search needs
+same-length c = c .before .before .before .before .disconnect .kept .0
 
 same-length-2 : tie.Need-same-length-2
-same-length-2 c = search needs
+same-length-2 c = c .before .before .before .before .disconnect .kept .1 .0
 
 returns : tie.Need-returns
 returns c = λ n g x. goes-through (without-head _ g (c .before .before .before .before .before .before .before .if1 .taken)) (c .before .before .before .before .disconnect .ensures n _ _ g (x .hold) (x .named .tail-in))
@@ -30,13 +30,13 @@ enum-told : tie.Need-enum-told
 enum-told c = search needs
 
 same-length-3 : tie.Need-same-length-3
-same-length-3 c = search needs
+same-length-3 c = c .before .before .before .before .before .before .before .before .add-or-reduce-edge .kept .0
 
 same-length-4 : tie.Need-same-length-4
-same-length-4 c = search needs
+same-length-4 c = c .before .before .before .before .before .before .before .before .add-or-reduce-edge .kept .1 .0
 
 same-length-5 : tie.Need-same-length-5
-same-length-5 c = search needs
+same-length-5 c = c .before .before .before .before .before .before .before .before .add-or-reduce-edge .kept .1 .1 .0
 
 returns-2 : tie.Need-returns-2
 returns-2 c = λ n g x.
@@ -45,13 +45,13 @@ returns-2 c = λ n g x.
     is-refused (with-head _ g (c .before .before .before .before .before .before .before .before .before .before .before .before .if1 .left)) (a .full off) (still (a .same off) (x .hold))
 
 same-length-6 : tie.Need-same-length-6
-same-length-6 c = search needs
+same-length-6 c = c .before .before .before .before .before .before .before .before .before .add-or-reduce-edge .kept .0
 
 same-length-7 : tie.Need-same-length-7
-same-length-7 c = search needs
+same-length-7 c = c .before .before .before .before .before .before .before .before .before .add-or-reduce-edge .kept .1 .0
 
 same-length-8 : tie.Need-same-length-8
-same-length-8 c = search needs
+same-length-8 c = c .before .before .before .before .before .before .before .before .before .add-or-reduce-edge .kept .1 .1 .0
 
 returns-3 : tie.Need-returns-3
 returns-3 c = λ n g x.

@@ -34,19 +34,19 @@ change-and-list-requires : tie.Need-change-and-list-requires
 change-and-list-requires c κs = record { accepted = sym (c .before .before .before .before .before .before .before .before .before .before .check-graph .ensures) ∙ c .before .before .before .before .before .before .before .before .before .if1 .left; enough = c .before .before .before .before .before .before .before .before .lent-fits .ensures .0 (not-false _ (c .before .before .before .before .before .before .before .if2 .left)); given = c .before .before .before .before .before .before .changes-fit .ensures .0 (not-false _ (c .before .before .before .before .before .if3 .left)) }
 
 same-length : tie.Need-same-length
-same-length c = search needs
+same-length c = c .before .before .before .before .before .before .before .before .before .before .change-and-list .kept .1 .1 .1 .1 .1 .1 .1 .1 .1 .1 .1 .0
 
 same-length-2 : tie.Need-same-length-2
-same-length-2 c = search needs
+same-length-2 c = c .before .before .before .before .before .before .before .before .before .before .change-and-list .kept .1 .1 .1 .1 .1 .1 .1 .1 .1 .1 .1 .1 .0
 
 same-length-3 : tie.Need-same-length-3
-same-length-3 c = search needs
+same-length-3 c = c .before .before .before .before .before .before .before .before .before .before .change-and-list .kept .1 .1 .1 .1 .1 .1 .1 .1 .1 .1 .1 .1 .1 .0
 
 same-length-4 : tie.Need-same-length-4
-same-length-4 c = search needs
+same-length-4 c = c .before .before .before .before .before .before .before .before .before .before .change-and-list .kept .1 .1 .1 .1 .1 .1 .1 .1 .1 .1 .1 .1 .1 .1 .0
 
 same-length-5 : tie.Need-same-length-5
-same-length-5 c = search needs
+same-length-5 c = c .before .before .before .before .before .before .before .before .before .before .change-and-list .kept .1 .1 .1 .1 .1 .1 .1 .1 .1 .1 .1 .1 .1 .1 .1 .0
 
 returns-4 : tie.Need-returns-4
 returns-4 c =
