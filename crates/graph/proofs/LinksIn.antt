@@ -16,7 +16,7 @@ use Rattle.graph.specs.declared.preparation_graph.Added.{Added}
 use Rattle.graph.specs.declared.preparation_graph.Added.the-variants.{Arc as Came, Full}
 use Rattle.lists.specs.Memory.{Memory, arc}
 use Rattle.graph.specs.Stands.{Stands}
-use Rattle.graph.specs.Promises.{Addable, Answers, Holds}
+use Rattle.graph.specs.Promises.{Addable, Answers, TookIn}
 use Rattle.input_graph.proofs.Columns.{at, from-link, link-count}
 
 module _ (ts hs ws : List ℕ) (even : Even ts hs ws) where
@@ -66,14 +66,14 @@ module _ {n pool : ℕ} {m : Memory} {w : List ℕ} {state : Pool} (ts hs ws : L
     pub next-came : (next : Pool) → r ≡ Came next → Stands n pool m′ w′ next (so-far ts hs ws (b .even) (i + 1))
     next-came next e = rw (one-more ts hs ws (b .even) i h) at (answers .came next e .stands)
 
-    pub next-full : r ≡ Full → Holds n pool m′ w′ (graph-of (links ts hs ws)) Full
+    pub next-full : r ≡ Full → TookIn n pool m′ w′ (graph-of (links ts hs ws)) Full
     next-full e =
         record {
           came = λ next f. absurd (let z : _≡_ {A = ℕ} 0 1 = cc in omega arith);
           full = λ _. omega (arith, answers .full e, ap length (one-more ts hs ws (b .even) i h), no-longer ts hs ws (b .even) (i + 1));
         }
 
-  pub all-came : length ts ≤ i → Holds n pool m w (graph-of (links ts hs ws)) (Came state)
+  pub all-came : length ts ≤ i → TookIn n pool m w (graph-of (links ts hs ws)) (Came state)
   all-came h =
       record {
         came = λ next e. let same : state ≡ next = cc in rw (← same, ← (all-links ts hs ws (b .even) i h)) stands;

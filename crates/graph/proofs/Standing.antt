@@ -15,7 +15,7 @@ use Rattle.rules.proofs.Lists.{map-same, Distinct, to-distinct, distinct-parts,
 use Rattle.graph.specs.declared.preparation_graph.Pool.{Pool}
 use Rattle.lists.specs.Memory.{Memory, memory, at, last, arc-at, ends-at, Chain, last-of}
 use Rattle.graph.specs.Stands.{Placed, Stands, Extends}
-use Rattle.lists.specs.Promises.{Open, Takes}
+use Rattle.lists.specs.Promises.{Open, CanTake}
 use Rattle.lists.specs.Steps.{put}
 use Rattle.lists.proofs.Chains.{chain-same, chain-empty, chain-first, last-in}
 use Rattle.graph.proofs.Places.{freed-valid, all-once, once, roomy, live-at-most, on-sides, put-sides, put-other, put-tail, put-head, put-centre, put-arcs-long, put-nodes-long}
@@ -39,7 +39,7 @@ module _ {n pool : ℕ} {m : Memory} {state : Pool} {ids freed : List ℕ} (here
         ];
   }
 
-  pub takes : (w : List ℕ) → pool ≤ length w → (p : ℕ) → p < pool → (a : Arc) → a .tail < n → a .head < n → Takes m w p a
+  pub takes : (w : List ℕ) → pool ≤ length w → (p : ℕ) → p < pool → (a : Arc) → a .tail < n → a .head < n → CanTake m w p a
   takes w room p below a tail-in head-in = record {
     place = omega (arith, here .arcs-room);
     weighed = omega arith;

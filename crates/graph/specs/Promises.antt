@@ -78,6 +78,6 @@ pub record Spacious (n pool : ℕ) (m : Memory) (w : List ℕ) : Type 0 where
   pub nodes-room : 4 * n ≤ length (m .nodes)
 
 -- the slices hold g; or the pool is smaller
-pub record Holds (n pool : ℕ) (m : Memory) (w : List ℕ) (g : List Arc) (r : Added) : Type 0 where
+pub record TookIn (n pool : ℕ) (m : Memory) (w : List ℕ) (g : List Arc) (r : Added) : Type 0 where
   pub came : (state : Pool) → r ≡ Came state → Stands n pool m w state g
   pub full : r ≡ Full → pool < length g

@@ -15,7 +15,7 @@ ghost use Rattle.lists.specs.Memory.{memory, first, arc};
 ghost use Rattle.graph.specs.Stands.{Stands};
 ghost use Rattle.rules.specs.Build.{graph-of};
 ghost use Rattle.input_graph.specs.Given.{links, Between};
-ghost use Rattle.graph.specs.Promises.{Spacious, Holds, Addable, HoldsSome, Answers, Reduces, Drops, Clears};
+ghost use Rattle.graph.specs.Promises.{Spacious, TookIn, Addable, HoldsSome, Answers, Reduces, Drops, Clears};
 
 // What goes with the slices: the first of the freed places, and how many places were ever used.
 pub struct Pool {
@@ -198,7 +198,7 @@ pub fn from_input_graph(
     link_weights: &[u32],
 ) -> Added
     requires { ⌜ Spacious n pool (memory (now arcs) (now nodes)) (now weights) × Between n (now tails) (now heads) (now «link_weights») ⌝ }
-    ensures { λ r. ⌜ Holds n pool (memory (now (arcs .exit)) (now (nodes .exit))) (now (weights .exit))
+    ensures { λ r. ⌜ TookIn n pool (memory (now (arcs .exit)) (now (nodes .exit))) (now (weights .exit))
         (graph-of (links (now (tails .entry)) (now (heads .entry)) (now («link_weights» .entry)))) r ⌝ }
 {
     let mut state = clear(nodes, n);

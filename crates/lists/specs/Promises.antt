@@ -18,7 +18,7 @@ pub record Open (m : Memory) (s v b : ℕ) : Type 0 where
   pub place : (b ≡ invalid → ⊥) → Room m b
 
 -- place i can take an arc
-pub record Takes (m : Memory) (w : List ℕ) (i : ℕ) (a : Arc) : Type 0 where
+pub record CanTake (m : Memory) (w : List ℕ) (i : ℕ) (a : Arc) : Type 0 where
   pub place : Room m i
   pub weighed : i < length w
   pub out : Open m 0 (a .tail) (last m 0 (a .tail))

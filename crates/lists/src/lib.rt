@@ -16,7 +16,7 @@ ghost use Rattle.rules.specs.Lists.{In};
 ghost use Rattle.lists.specs.Memory.{memory, first, last, arc};
 ghost use Rattle.lists.specs.Steps.{follow as followed, append as appended, unlink as unlinked, write, put};
 ghost use Rattle.lists.specs.Walks.{column, Walk, before as before-in, found};
-ghost use Rattle.lists.specs.Promises.{Room, Open, Takes};
+ghost use Rattle.lists.specs.Promises.{Room, Open, CanTake};
 
 // In the list of `node`, `next` follows `before`; where that is INVALID, it is the first.
 pub fn follow(arcs: &mut [u32], nodes: &mut [u32], side: usize, node: usize, before: u32, next: u32)
@@ -121,7 +121,7 @@ pub fn put_arc(
     weight: u64,
     centre: u32,
 )
-    requires { ⌜ Takes (memory (now arcs) (now nodes)) (now weights) place (arc tail head weight centre) ⌝ }
+    requires { ⌜ CanTake (memory (now arcs) (now nodes)) (now weights) place (arc tail head weight centre) ⌝ }
     ensures { λ _. ⌜ (memory (now (arcs .exit)) (now (nodes .exit)) ≡ put (memory (now (arcs .entry)) (now (nodes .entry))) place (arc tail head weight centre)) ×
         (now (weights .exit) ≡ set (now (weights .entry)) place weight) ⌝ }
 {

@@ -6,7 +6,7 @@ use native.Mathlib.Omega.{arith}
 use Rattle.rules.specs.Graph.{Arc}
 use Rattle.graph.specs.declared.preparation_graph.Pool.{Pool}
 use Rattle.lists.specs.Memory.{Memory}
-use Rattle.lists.specs.Promises.{Takes}
+use Rattle.lists.specs.Promises.{CanTake}
 use Rattle.graph.specs.Promises.{Addable}
 use Rattle.graph.proofs.Answering.{answers-came, answers-full}
 use Rattle.graph.proofs.Standing.{takes, freed-below, stands-reused, stands-fresh, pool-full}
@@ -17,7 +17,7 @@ use Rattle.graph.proofs.preparation_graph.add_edge_or_shortcut.Reads as
 use Rattle.graph.proofs.preparation_graph.add_edge_or_shortcut.Lts as lts
 use Rattle.lists.proofs.put_arc.Reads as put-arc-reads
 
-addable-takes : {n pool p : ℕ} {m : Memory} {w : List ℕ} {state : Pool} {a : Arc} {g : List Arc} → Addable n pool m w state a g → p < pool → Takes m w p a
+addable-takes : {n pool p : ℕ} {m : Memory} {w : List ℕ} {state : Pool} {a : Arc} {g : List Arc} → Addable n pool m w state a g → p < pool → CanTake m w p a
 addable-takes r below = takes (r .stands .placed) _ (r .stands .weights-room) _ below _ (r .tail-in) (r .head-in)
 
 cast-rest : tie.Need-cast-rest
