@@ -44,7 +44,7 @@ extern "C" {
     ) -> u64;
 }
 
-/// Links, and the slices that a search over them borrows.
+/// Links, and the slices that a search over them borrows, which hold rubbish.
 struct Ours {
     links: Columns,
     arcs: Vec<u32>,
@@ -59,11 +59,11 @@ impl Ours {
         let (n, pool) = (graph.get_num_nodes(), graph.get_edges().len());
         Ours {
             links: Columns::of(graph),
-            arcs: vec![0; 6 * pool],
-            weights: vec![0; pool],
-            nodes: vec![0; 4 * n],
-            labels: vec![0; 2 * n],
-            heap: vec![0; 2 * (pool + 1)],
+            arcs: vec![7; 6 * pool],
+            weights: vec![7; pool],
+            nodes: vec![7; 4 * n],
+            labels: vec![7; 2 * n],
+            heap: vec![7; 2 * (pool + 1)],
         }
     }
 

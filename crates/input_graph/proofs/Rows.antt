@@ -1,20 +1,20 @@
 -- Which of rows 1 to 6 is the first that is met.
-use mathlib.Core.Bool.{Bool, true, false, not, _&&_, _||_}
+use mathlib.Core.Bool.{true, false, not}
 use mathlib.Core.List.{List, [], _∷_}
-use mathlib.Core.Path.{_≡_, refl, sym, ap, _∙_, fun-ext}
+use mathlib.Core.Path.{_≡_, refl, ap, _∙_, fun-ext}
 use Prim.Native.Nat.{ℕ, _≤_, _<_}
-use lib.Dec.{eqb, ltb, leb}
+use lib.Dec.{eqb}
 use lib.ListN.{length}
 use borrow.Author.Tests.{eq-eqb, ne-eqb, lt-ltb, le-ltb, lt-leb, le-leb}
 use Rattle.rules.specs.Numbers.{maxNodes, maxLinks}
 use Rattle.rules.specs.Lists.{all, any}
-use Rattle.rules.specs.Columns.{Link, Links, linkList}
+use Rattle.rules.specs.Columns.{Link, linkList}
 use Rattle.rules.specs.Refusals.{first-met, names-none-above, loop, ascending, columns-fit, graph-rows, graph-refusal}
 use Rattle.rules.proofs.Cases.{on-test}
 use Rattle.input_graph.specs.Given.{links, Even, bad-in}
 
 -- rows 3 to 5 as the walk over the links asks them
-above-rows : (n : ℕ) (ls : List Link) → not (all (names-none-above n) ls) ≡ any (bad-in 3 n) ls
+pub above-rows : (n : ℕ) (ls : List Link) → not (all (names-none-above n) ls) ≡ any (bad-in 3 n) ls
 unfolding all any bad-in
 above-rows n [] = refl
 above-rows n (l ∷ ls) =

@@ -23,7 +23,7 @@ fn bad(row: u32, n: usize, tail: u32, head: u32, weight: u32) -> bool
 }
 
 // Whether it finds any.
-fn any_bad(row: u32, n: usize, tails: &[u32], heads: &[u32], weights: &[u32]) -> bool
+pub fn any_bad(row: u32, n: usize, tails: &[u32], heads: &[u32], weights: &[u32]) -> bool
     requires { ⌜ Even (now tails) (now heads) (now weights) ⌝ }
     ensures { λ r. ⌜ r ≡ any (bad-in row n) (linkList (links (now (tails .entry)) (now (heads .entry)) (now (weights .entry)))) ⌝ }
 {

@@ -19,7 +19,7 @@ ghost use Rattle.lists.specs.Walks.{column, Walk, before as before-in, f
 ghost use Rattle.lists.specs.Promises.{Room, Open, CanTake};
 
 // In the list of `node`, `next` follows `before`; where that is INVALID, it is the first.
-pub fn follow(arcs: &mut [u32], nodes: &mut [u32], side: usize, node: usize, before: u32, next: u32)
+fn follow(arcs: &mut [u32], nodes: &mut [u32], side: usize, node: usize, before: u32, next: u32)
     requires { ⌜ Open (memory (now arcs) (now nodes)) side node before ⌝ }
     ensures { λ _. ⌜ memory (now (arcs .exit)) (now (nodes .exit)) ≡ followed (memory (now (arcs .entry)) (now (nodes .entry))) side node before next ⌝ }
 {
@@ -31,7 +31,7 @@ pub fn follow(arcs: &mut [u32], nodes: &mut [u32], side: usize, node: usize, bef
 }
 
 // Place `place` goes to the end of the list of `node`.
-pub fn append(arcs: &mut [u32], nodes: &mut [u32], side: usize, node: usize, place: u32)
+fn append(arcs: &mut [u32], nodes: &mut [u32], side: usize, node: usize, place: u32)
     requires { ⌜ Open (memory (now arcs) (now nodes)) side node (last (memory (now arcs) (now nodes)) side node) × Room (memory (now arcs) (now nodes)) place ⌝ }
     ensures { λ _. ⌜ memory (now (arcs .exit)) (now (nodes .exit)) ≡ appended (memory (now (arcs .entry)) (now (nodes .entry))) side node place ⌝ }
 {
@@ -91,7 +91,7 @@ pub fn find_arc(arcs: &[u32], start: u32, head: u32) -> u32
 }
 
 // Writes an arc at a place.
-pub fn write_arc(
+fn write_arc(
     arcs: &mut [u32],
     weights: &mut [u64],
     place: u32,

@@ -1,10 +1,10 @@
 -- A walk along a node's list: its arcs are between nodes and light.
-use mathlib.Core.Path.{_≡_, refl, ap}
+use mathlib.Core.Path.{_≡_, refl}
 use mathlib.Core.List.{List, _∷_, List·Memᴰ·head, List·Memᴰ·tail}
 use Prim.Native.Nat.{ℕ, _+_, _*_, _≤_, _<_}
 use native.Mathlib.Nat.{add-zero}
 use native.Mathlib.Omega.{arith}
-use lib.ListN.{length, getD, length-map}
+use lib.ListN.{length, getD}
 use Rattle.rules.specs.Numbers.{invalid, maxWeight}
 use Rattle.rules.specs.Lists.{In}
 use Rattle.rules.specs.Graph.{Arc, leaves, enters, outs, ins}
@@ -12,7 +12,7 @@ use Rattle.rules.proofs.Members.{in-keep, in-map}
 use Rattle.lists.specs.Memory.{memory, at, first, arc-at}
 use Rattle.lists.specs.Walks.{column, Reads, steps}
 use Rattle.rules.proofs.Lists.{keep-length}
-use Rattle.graph.proofs.Places.{live-at-most}
+use Rattle.graph.proofs.Standing.{within-pool}
 use Rattle.lists.proofs.Walks.{reads-on, reads-room, reads-nearer}
 use Rattle.graph.proofs.Reading.{reads-outs, reads-ins}
 use Rattle.search.specs.Searching.{World, Standing}
@@ -54,14 +54,7 @@ module _ {w : World} {arcs weights nodes : List ℕ} (x : Standing w arcs weight
 
   pub few-ins : (v : ℕ) → length (ins (w .graph) v) ≤ w .pool
   unfolding ins
-  few-ins v =
-      omega (
-        arith,
-        keep-length (enters v) (w .graph),
-        ap length (x .stands .arcs),
-        length-map (x .stands .ids) (arc-at (memory arcs nodes) weights),
-        live-at-most (x .stands .placed),
-      )
+  few-ins v = omega (arith, keep-length (enters v) (w .graph), within-pool (x .stands))
 
 module _ {n : ℕ} {arcs weights nodes : List ℕ} {s place : ℕ} {list : List Arc} (x : Left n arcs weights nodes s place list) (on : place ≡ invalid → ⊥) where
   pub left-fit : Fit n (arc-at (memory arcs nodes) weights place)

@@ -28,17 +28,7 @@ fn links_fit(n: usize, tails: &[u32], heads: &[u32], weights: &[u32]) -> bool
     if weights.len() != count {
         return false;
     }
-    let mut i = 0;
-    while i < count {
-        if n <= tails[i] as usize {
-            return false;
-        }
-        if n <= heads[i] as usize {
-            return false;
-        }
-        i += 1;
-    }
-    true
+    !input_graph::any_bad(3, n, tails, heads, weights)
 }
 
 // Whether slices of these lengths are enough for n nodes and a place for each link.
