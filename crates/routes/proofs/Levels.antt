@@ -37,7 +37,7 @@ keep-apart p (x ∷ g) a =
     (λ t. rw (t, keep) (keep-apart p g (a .1)))
 
 -- what an arc of the graph afterwards is: an old one, a reduced one, or the new one
-in-added : (s : Arc) (g : List Arc) (y : Arc) → In y (addOrReduce s g) → In y g ⊎ (y ≡ s)
+pub in-added : (s : Arc) (g : List Arc) (y : Arc) → In y (addOrReduce s g) → In y g ⊎ (y ≡ s)
 unfolding addOrReduce reduce
 in-added s [] y m = inr (List·Memᴰ·eq-of-singleton m)
 in-added s (x ∷ g) y m =

@@ -65,7 +65,7 @@ module _ {m : Lent} {x₀ x : WitnessSearch} {limit k : ℕ} {targets sums answe
     (y : SoFar m x₀ x limit k targets sums answers counts answers′ counts′ w s) where
   module _ (asks : Askable (w .n) targets sums (length answers) (length counts)) (h : k < length targets) where
     pub next-asked : Asked m (x .base) (x .len) (x .settled) (getD targets k 0) (getD sums k 0) w (y .search)
-    next-asked = record { ready = y .ready; inside = asks .inside k h; small = asks .small k h }
+    next-asked = record { ready = y .ready; inside = asks .inside k h; small = omega (arith, asks .small k h) }
 
     pub one-more : {m′ : Lent} (r : Answer) → Answered m′ x (getD targets k 0) (getD sums k 0) limit r w (y .search) →
         SoFar m′ x₀ (r .search) limit (k + 1) targets sums answers counts (set answers′ k (r .weight)) (set counts′ k (r .search .settled)) w s
