@@ -5,7 +5,7 @@ use mathlib.Core.List.{List, [], _∷_, map, List·Memᴰ·head, List·Memᴰ·t
 use Prim.Native.Nat.{ℕ, zero, suc, _+_, _*_, _≤_, _<_}
 use native.Mathlib.Nat.{add-zero}
 use native.Mathlib.Omega.{arith}
-use lib.ListN.{length, getD, drop, length-drop}
+use lib.ListN.{length, getD, drop, length-drop, length-map}
 use Rattle.rules.specs.Numbers.{invalid}
 use Rattle.rules.specs.Lists.{In}
 use Rattle.rules.specs.Graph.{Arc}
@@ -74,6 +74,11 @@ module _ {m : Memory} {w : List ℕ} {s start : ℕ} {list : List Arc} (reads : 
       let r = walk-on (reads .walk) h in
       (walk-room (reads .walk) h, reads .weighed start (rw (r .1) (List·Memᴰ·head refl)))
 
+  pub reads-steps : steps (at m (3 + s)) (length (m .arcs)) start ≡ length list
+  reads-steps =
+      let long : length list ≡ length (reads .places) = rw (reads .arcs, length-map) in
+      walk-steps (reads .walk) ∙ sym long
+
   pub reads-nearer : (start ≡ invalid → ⊥) → steps (at m (3 + s)) (length (m .arcs)) (at m (3 + s) start) < steps (at m (3 + s)) (length (m .arcs)) start
   reads-nearer h = walk-nearer (reads .walk) h
 
@@ -93,7 +98,7 @@ chain-from next start l zero c = rw (← chain-starts next start l c) c
 chain-from next start [] (suc k) c = refl
 chain-from next start (i ∷ l) (suc k) c = chain-from next (next i) l k (c .1)
 
-in-drop : {A : Type 0} (x : A) (k : ℕ) (l : List A) → In x (drop k l) → In x l
+pub in-drop : {A : Type 0} (x : A) (k : ℕ) (l : List A) → In x (drop k l) → In x l
 in-drop x zero l m = m
 in-drop x (suc k) [] m = m
 in-drop x (suc k) (y ∷ l) m = List·Memᴰ·tail (in-drop x k l m)
