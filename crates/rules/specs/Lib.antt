@@ -11,5 +11,6 @@ pub mod Build
 pub mod Unpack
 pub mod Query
 pub mod Program
+pub mod FirstDemand
 pub mod Computing
 pub mod Bench
