@@ -13,7 +13,7 @@ use Rattle.rules.specs.Lists.{In, distinct, flat-map}
 use Rattle.rules.specs.Columns.{linkList, Entry, Hierarchy, Side, forward, backward, table, entry, rank, begin, places}
 use Rattle.rules.specs.TableRules.{tail-of, head-of, used}
 use Rattle.rules.specs.Refusals.{BuildCall}
-use Rattle.rules.specs.Graph.{Arc}
+use Rattle.rules.specs.Graph.{Arc, Apart}
 use Rattle.rules.specs.Build.{Level, arcs-of, neighbour-of, raw, level-raws, raws, Building, place, finish-contraction}
 use Rattle.rules.specs.Unpack.{is-shortcut}
 use Rattle.rules.proofs.Members.{in-map}
@@ -22,7 +22,7 @@ use Rattle.rules.proofs.Prefixes.{prefix, sizes, locate, flat-length, flat-at-m
 use Rattle.routes.specs.Demand.{Linked}
 use Rattle.routes.specs.Promise.{Entries, Promise}
 use Rattle.routes.proofs.Paths.{Lighter, lighter-path}
-use Rattle.routes.proofs.Levels.{Apart, rank-of, own-end}
+use Rattle.routes.proofs.Levels.{rank-of, own-end}
 use Rattle.routes.proofs.Runs.{LevelEdges}
 use Rattle.routes.proofs.Accepted.{AcceptedBuild}
 use Rattle.routes.proofs.Room.{codes-distinct}

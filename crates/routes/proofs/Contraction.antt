@@ -9,7 +9,7 @@ use lib.Dec.{eqb, ltb, leb}
 use lib.ListN.{length}
 use borrow.Author.Tests.{eqb-true, eqb-false, ltb-false, leb-true}
 use Rattle.rules.specs.Numbers.{maxWeight}
-use Rattle.rules.specs.Graph.{Arc, outs, ins, addOrReduce, disconnect}
+use Rattle.rules.specs.Graph.{Arc, outs, ins, Loopless, addOrReduce, disconnect}
 use Rattle.rules.specs.Search.{init, Found, find-max-weight}
 use Rattle.rules.specs.Build.{went, in-pool, Contracting, shortcut, add, unless-witness, ask, within-sum, pair, pairs-of, handle-shortcuts, contract-node}
 use Rattle.rules.specs.Lists.{In}
@@ -232,10 +232,6 @@ module _ (pool limit v : ℕ) where
               | inr later ↦ rest .covers a′ b′ later mb offa offb apart
             ];
       }
-
--- no arc leads from a node to itself
-abbrev pub Loopless : List Arc → Type 0
-Loopless g = (x : Arc) → In x g → x .tail ≡ x .head → ⊥
 
 module _ (pool limit v : ℕ) (g k : List Arc) (loopless : Loopless g) (e : contract-node pool limit v g ≡ went k) where
   pub contracted : (m : List Arc) × (handle-shortcuts pool limit v (ins g v) (outs g v) g ≡ went m) × (k ≡ disconnect m v)

@@ -12,7 +12,7 @@ use borrow.Author.Tests.{eq-eqb}
 use Rattle.rules.specs.Numbers.{maxWeight, invalid}
 use Rattle.rules.specs.Lists.{In, keep, position}
 use Rattle.rules.specs.Columns.{Link, Side, forward, backward}
-use Rattle.rules.specs.Graph.{Arc, outs, ins, joins, reduce, addOrReduce, disconnect}
+use Rattle.rules.specs.Graph.{Arc, outs, ins, joins, Loopless, Apart, reduce, addOrReduce, disconnect}
 use Rattle.rules.specs.Build.{went, shortcut, contract-node, Level, arcs-of, neighbour-of}
 use Rattle.rules.proofs.Arcs.{joined-ends}
 use Rattle.rules.proofs.Decides.{both-and}
@@ -21,12 +21,7 @@ use Rattle.rules.proofs.Members.{in-keep}
 use Rattle.rules.proofs.Positions.{same-position}
 use Rattle.routes.specs.Demand.{Linked}
 use Rattle.routes.proofs.Graphs.{in-outs, in-ins, in-disconnected, reduced}
-use Rattle.routes.proofs.Contraction.{Loopless, shortcuts-keep, contracted}
-
--- no two arcs of the same ends, at any two places
-abbrev pub Apart : List Arc → Type 0
-Apart [] = Unit {0}
-Apart (x ∷ g) = ((y : Arc) → In y g → joins x y ≡ false) × Apart g
+use Rattle.routes.proofs.Contraction.{shortcuts-keep, contracted}
 
 keep-apart : (p : Arc → Bool) (g : List Arc) → Apart g → Apart (keep p g)
 unfolding keep

@@ -11,14 +11,14 @@ use lib.ListN.{length, length-map}
 use borrow.Author.Tests.{eq-eqb}
 use Rattle.rules.specs.Lists.{In, any, distinct}
 use Rattle.rules.specs.Columns.{Link}
-use Rattle.rules.specs.Graph.{Arc, joins}
+use Rattle.rules.specs.Graph.{Arc, joins, Apart}
 use Rattle.rules.specs.Build.{Level}
 use Rattle.rules.proofs.Decides.{both-and}
 use Rattle.rules.proofs.Cases.{on-test}
 use Rattle.rules.proofs.Members.{in-map, any-same}
 use Rattle.rules.proofs.Positions.{same-position}
 use Rattle.rules.proofs.Pigeonhole.{at-most, distinct-more}
-use Rattle.routes.proofs.Levels.{Apart, rank-of, GraphOk}
+use Rattle.routes.proofs.Levels.{rank-of, GraphOk}
 
 same-ends-join : (x y : Arc) → x .tail ≡ y .tail → x .head ≡ y .head → joins x y ≡ true
 unfolding joins

@@ -10,15 +10,15 @@ use lib.ListN.{length}
 use borrow.Author.Tests.{eq-eqb}
 use Rattle.rules.specs.Numbers.{maxLinkWeight, invalid}
 use Rattle.rules.specs.Lists.{In, flat-map}
-use Rattle.rules.specs.Columns.{Link, linkList, zip-links}
+use Rattle.rules.specs.Columns.{Link, linkList}
 use Rattle.rules.specs.Refusals.{BuildCall, ascending}
-use Rattle.rules.specs.Graph.{joins}
+use Rattle.rules.specs.Graph.{joins, Apart}
 use Rattle.rules.specs.Build.{went, link-arc, from-links, raws, Building, rank-steps, contraction}
 use Rattle.rules.proofs.Arcs.{joined-ends}
 use Rattle.rules.proofs.Ranges.{distinct-decides}
 use Rattle.rules.proofs.Cases.{on-test}
 use Rattle.rules.proofs.Steps.{both-went}
-use Rattle.rules.proofs.Members.{in-map, map-in}
+use Rattle.rules.proofs.Members.{in-map, map-in, weight-in}
 use Rattle.rules.proofs.Positions.{position-below}
 use Rattle.rules.proofs.Pigeonhole.{every-below}
 use Rattle.routes.specs.Paths.{Path}
@@ -26,7 +26,7 @@ use Rattle.routes.specs.Demand.{Linked}
 use Rattle.routes.proofs.Paths.{Lighter, lighter-path}
 use Rattle.routes.proofs.Graphs.{Arcs}
 use Rattle.routes.proofs.Contraction.{pool-held}
-use Rattle.routes.proofs.Levels.{Apart, rank-of, GraphOk}
+use Rattle.routes.proofs.Levels.{rank-of, GraphOk}
 use Rattle.routes.proofs.Runs.{RunOk, Fit, levels-fit, LevelUpDown, up-down}
 use Rattle.routes.proofs.Accepted.{AcceptedBuild, Before, ascending-before}
 
@@ -49,18 +49,6 @@ links-apart (k ∷ ls) e =
     clash : (k l : Link) → Before k l → l .tail ≡ k .tail → l .head ≡ k .head → ⊥
     clash k l (inl p) s t = omega arith
     clash k l (inr p) s t = omega (arith, p .1)
-
--- a link's weight is a number of its column
-pub weight-in : (ts hs ws : List ℕ) (l : Link) → In l (zip-links ts hs ws) → In (l .weight) ws
-unfolding zip-links
-weight-in [] hs ws l m = absurd (List·Memᴰ·not-nil m)
-weight-in (t ∷ ts) [] ws l m = absurd (List·Memᴰ·not-nil m)
-weight-in (t ∷ ts) (h ∷ hs) [] l m = absurd (List·Memᴰ·not-nil m)
-weight-in (t ∷ ts) (h ∷ hs) (w ∷ ws) l m =
-    elim (List·Memᴰ·cases-cons m) [
-      | inl here ↦ List·Memᴰ·head (ap (λ x. x .weight) here)
-      | inr later ↦ List·Memᴰ·tail (weight-in ts hs ws l later)
-    ]
 
 module _ (c : BuildCall) (ok : AcceptedBuild c) (small : (w : ℕ) → In w (c .links .weights) → w ≤ maxLinkWeight) where
   abbrev links : List Link
