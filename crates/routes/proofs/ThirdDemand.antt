@@ -1,8 +1,8 @@
 -- The third demand: the build's half and the query's half together.
 use Rattle.rules.specs.Columns.{linkList}
 use Rattle.routes.specs.Demand.{ThirdDemand}
-use Rattle.routes.proofs.Refused.{build-half}
-use Rattle.routes.proofs.QueryHalf.{query-half}
+use Rattle.build_laws.proofs.Refused.{build-half}
+use Rattle.query_laws.proofs.Half.{query-half}
 
 pub third-demand : ThirdDemand
 third-demand c q on =

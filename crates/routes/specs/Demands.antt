@@ -1,5 +1,5 @@
--- All that is proved of the definitions, on one page. Demand.antt says what a walk is and what counts; Promise.antt what a
--- build promises a query.
+-- All that is proved of the definitions, on one page. Demand.antt has the third demand and says where a walk is defined;
+-- walks/specs Promise.antt what a build promises a query.
 use mathlib.Core.Path.{_≡_}
 use mathlib.Core.Bool.{true, false}
 use mathlib.Core.List.{List, [], _∷_, _++_, map}
@@ -17,8 +17,8 @@ use Rattle.rules.specs.Build.{Built, build}
 use Rattle.rules.specs.Unpack.{is-shortcut, unpacked}
 use Rattle.rules.specs.Query.{Half, Answered, entered, rounds, climb, root, searched, query}
 use Rattle.rules.specs.Program.{Phase, digits, lines}
+use Rattle.walks.specs.Promise.{Promise}
 use Rattle.routes.specs.Demand.{ThirdDemand}
-use Rattle.routes.specs.Promise.{Promise}
 
 -- A build that was not refused, of links whose weights are of 32 bits.
 pub record IsBuilt (c : BuildCall) : Type 0 where

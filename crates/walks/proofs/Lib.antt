@@ -1,0 +1,3 @@
+-- Laws of paths, and of tables that keep the promise.
+pub mod Paths
+pub mod Places
