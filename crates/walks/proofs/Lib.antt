@@ -1,3 +1,4 @@
 -- Laws of paths, and of tables that keep the promise.
 pub mod Paths
 pub mod Places
+pub mod Agreement

@@ -2,3 +2,4 @@
 pub mod Paths
 pub mod Walks
 pub mod Promise
+pub mod Agreement
