@@ -1,4 +1,4 @@
--- Of every build that was not refused: its tables pass the table check, its ranks are the order's inverse, and no
+-- Of every build that was not refused: its tables pass the table check, also cut to the used places, its ranks are the order's inverse, and no
 -- neighbour stands twice among a node's entries.
 use mathlib.Core.Path.{_≡_, refl, sym, _∙_, ap}
 use mathlib.Core.Bool.{true}
@@ -10,16 +10,23 @@ use lib.Seq.{ext-getD}
 use Rattle.rules.specs.Numbers.{maxLinkWeight}
 use Rattle.rules.specs.Lists.{In, distinct, range}
 use Rattle.rules.specs.Columns.{Hierarchy, Side, table, entry, rank, begin, places, entries}
+use Rattle.rules.specs.TableRules.{TableRules}
 use Rattle.rules.specs.Refusals.{BuildCall, first-met, check-rows, check-refusal}
 use Rattle.rules.specs.Build.{arcs-of, neighbour-of, raw, Building, finish-contraction, build}
 use Rattle.rules.proofs.TablesDecided.{tables-decided}
 use Rattle.rules.proofs.Members.{getD-in}
 use Rattle.rules.proofs.Prefixes.{map-at, range-length, range-at}
+use Rattle.walks.specs.Agreement.{cut}
+use Rattle.walks.proofs.Cut.{cut-rules}
 use Rattle.build_laws.proofs.Accepted.{AcceptedBuild, accepted-build}
 use Rattle.build_laws.proofs.Starts.{Contracted, ranked, contraction-went}
 use Rattle.build_laws.proofs.BuiltTables.{no-arc, no-level, finish-keeps, begin-is, starts-at, starts-next, entry-is, raw-at, before-end, level-at, level-is, rank-is, rank-at}
 use Rattle.build_laws.proofs.Promised.{neighbours-distinct}
 use Rattle.build_laws.proofs.Refused.{build-went, build-half}
+
+rules-pass : (n : ℕ) (h : Hierarchy) → TableRules n h → check-refusal n h ≡ 0
+unfolding check-refusal check-rows first-met
+rules-pass n h rules = rw (tables-decided n h .1 rules, first-met)
 
 map-twice : {A B C : Type 0} (f : A → B) (g : B → C) (xs : List A) → map g (map f xs) ≡ map (λ x. g (f x)) xs
 map-twice f g [] = refl
@@ -71,8 +78,10 @@ module _ (c : BuildCall) (small : (w : ℕ) → In w (c .links .weights) → w �
 
   -- no query on its tables is refused with 20
   pub build-passes : check-refusal (c .nodes) (build c .hierarchy) ≡ 0
-  unfolding check-refusal check-rows first-met
-  build-passes = rw (tables-decided (c .nodes) (build c .hierarchy) .1 (build-half c small zero .rules), first-met)
+  build-passes = rules-pass (c .nodes) (build c .hierarchy) (build-half c small zero .rules)
+
+  pub cut-passes : check-refusal (c .nodes) (cut (c .nodes) (build c .hierarchy)) ≡ 0
+  cut-passes = rules-pass (c .nodes) (cut (c .nodes) (build c .hierarchy)) (cut-rules (c .nodes) (build c .hierarchy) (build-half c small zero .rules))
 
   pub ranks-inverse : (r : ℕ) → r < c .nodes → rank (build c .hierarchy) (getD (c .order) r 0) ≡ r
   ranks-inverse r h =

@@ -14,12 +14,13 @@ use Rattle.rules.specs.Build.{Step, went, refused, Building, contraction, built
 use Rattle.rules.specs.Query.{End, endList, Half, entered}
 use Rattle.rules.specs.Program.{digits, lines}
 use Rattle.rules.proofs.Cases.{on-test}
+use Rattle.walks.proofs.Cut.{cut-agrees}
 use Rattle.search_laws.specs.Paid.{Paid}
 use Rattle.search_laws.proofs.Bounds.{paid-heap, init-paid, added-paid, search-paid, run-enough, search-fuel-enough}
 use Rattle.build_laws.proofs.Accepted.{accepted-build}
 use Rattle.build_laws.proofs.Refused.{build-half}
 use Rattle.build_laws.proofs.Enough.{never-10, never-11}
-use Rattle.build_laws.proofs.Laws.{build-passes, ranks-inverse, no-neighbour-twice}
+use Rattle.build_laws.proofs.Laws.{build-passes, cut-passes, ranks-inverse, no-neighbour-twice}
 use Rattle.query_laws.proofs.Unpacking.{unpacked-shortcut, unpacked-plain}
 use Rattle.query_laws.proofs.State.{Sound}
 use Rattle.query_laws.proofs.Turns.{rounds-keep}
@@ -82,6 +83,8 @@ demands =
     record {
       third-demand = third-demand;
       tables-pass = λ c b. build-passes c (b .weights) (b .number);
+      cut-tables-pass = λ c b. cut-passes c (b .weights) (b .number);
+      cut-tables-agree = cut-agrees;
       ranks-inverse = λ c b. ranks-inverse c (b .weights) (b .number);
       no-neighbour-twice = λ c b. no-neighbour-twice c (b .weights) (b .number);
       never-10 =

@@ -18,6 +18,7 @@ use Rattle.rules.specs.Unpack.{is-shortcut, unpacked}
 use Rattle.rules.specs.Query.{Half, Answered, entered, rounds, climb, root, searched, query}
 use Rattle.rules.specs.Program.{Phase, digits, lines}
 use Rattle.walks.specs.Promise.{Promise}
+use Rattle.walks.specs.Agreement.{Agree, cut}
 use Rattle.routes.specs.Demand.{ThirdDemand}
 
 -- A build that was not refused, of links whose weights are of 32 bits.
@@ -40,8 +41,11 @@ pub record Small (n : ℕ) (h : Hierarchy) (s : Side) (ends : ℕ) (x : Half) : 
 pub record Demands : Type 0 where
   -- 1. The third demand.
   pub third-demand : ThirdDemand
-  -- 2. A build's tables pass the table check; ranks are the order's inverse; no neighbour twice in a node's entries.
+  -- 2. A build's tables pass the table check, also cut to the used places; ranks are the order's inverse; no neighbour twice in a
+  -- node's entries.
   pub tables-pass : (c : BuildCall) → IsBuilt c → check-refusal (c .nodes) (build c .hierarchy) ≡ 0
+  pub cut-tables-pass : (c : BuildCall) → IsBuilt c → check-refusal (c .nodes) (cut (c .nodes) (build c .hierarchy)) ≡ 0
+  pub cut-tables-agree : (n : ℕ) (h : Hierarchy) → Agree n h (cut n h)
   pub ranks-inverse : (c : BuildCall) → IsBuilt c → (r : ℕ) → r < c .nodes → rank (build c .hierarchy) (getD (c .order) r 0) ≡ r
   pub no-neighbour-twice : (c : BuildCall) → IsBuilt c → (s : Side) (v : ℕ) → v < c .nodes → distinct (map (λ e. e .neighbour) (entries (build c .hierarchy) s v)) ≡ true
   -- 3. Refusals that cannot come, and what stays in its range at every step.

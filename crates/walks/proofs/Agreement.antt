@@ -1,14 +1,17 @@
--- What a build promises of its tables holds of all that agree with them and keep the table rules.
+-- What a build promises of its tables holds of all that agree with them and keep the table rules; and tables that agree with such
+-- keep the rules too, if their columns have the places.
 use mathlib.Core.Path.{_≡_, refl, _∙_, ap}
+use mathlib.Core.Logic.{inl, inr}
 use mathlib.Core.List.{List}
-use Prim.Native.Nat.{ℕ, suc, _<_}
+use Prim.Native.Nat.{ℕ, suc, _≤_, _<_}
 use native.Mathlib.Omega.{arith}
-use Rattle.rules.specs.Columns.{Link, Hierarchy, Side, forward, backward, table, entry, rank, places}
-use Rattle.rules.specs.TableRules.{used, TableRules}
+use lib.ListN.{length}
+use Rattle.rules.specs.Columns.{Link, Table, Entry, Hierarchy, Side, forward, backward, table, entry, rank, begin, places, room, EquallyLong}
+use Rattle.rules.specs.TableRules.{used, Opens, EntryRules, SideRules, TableRules}
 use Rattle.walks.specs.Paths.{Path, stay, step}
 use Rattle.walks.specs.Promise.{Entries, Promise}
 use Rattle.walks.specs.Agreement.{Agree}
-use Rattle.walks.proofs.Places.{place-entry, place-used}
+use Rattle.walks.proofs.Places.{rising, used-entry, place-entry, place-used}
 
 module _ {n : ℕ} {h k : Hierarchy} (agree : Agree n h k) where
   used-same : (s : Side) → used n (table k s) ≡ used n (table h s)
@@ -21,7 +24,7 @@ module _ {n : ℕ} {h k : Hierarchy} (agree : Agree n h k) where
     unfolding places
     places-same u below =
         let low = rules .ranks-below u below in
-        rw (agree .ranks u below, agree .starts s (rank h u) (omega (arith, low)), agree .starts s (suc (rank h u)) low) refl
+        rw (agree .ranks u below, agree .starts s (rank h u) (omega (arith, low)), agree .starts s (suc (rank h u)) (omega (arith, low))) refl
 
     entry-kept : (u v w : ℕ) → u < n → Entries h s u v w → Entries k s u v w
     entry-kept u v w below (e, at, neighbour, weight) =
@@ -50,4 +53,68 @@ module _ {n : ℕ} {h k : Hierarchy} (agree : Agree n h k) where
             let up = path-kept (promise .rules) forward ha (r .3) in
             let down = path-kept (promise .rules) backward hb (r .4) in
             (r .0, r .1, r .2, up, down, r .5);
+      }
+
+-- the columns of a table have the places
+pub record Shape (n : ℕ) (t : Table) : Type 0 where
+  pub columns : EquallyLong t
+  pub places-for-starts : suc n ≤ length (t .starts)
+  pub end-within : used n t ≤ room t
+
+module _ {n : ℕ} {h k : Hierarchy} (agree : Agree n h k) (rules : TableRules n h) where
+  opens-kept : (s : Side) (e : Entry) → e .base < n → Opens n h s e → Opens n k s e
+  unfolding table
+  opens-kept s e below o =
+      let i : entry (k .backward) (e .in-number) ≡ entry (h .backward) (e .in-number) = agree .entries backward (e .in-number) (o .in-used) in
+      let j : entry (k .forward) (e .out-number) ≡ entry (h .forward) (e .out-number) = agree .entries forward (e .out-number) (o .out-used) in
+      let lower = used-entry n h rules backward (e .in-number) (o .in-used) .base-below in
+      rw (i, j)
+      (record {
+        in-used = rw (used-same agree backward) (o .in-used);
+        out-used = rw (used-same agree forward) (o .out-used);
+        one-node = o .one-node;
+        lower = rw (agree .ranks _ lower, agree .ranks _ below) (o .lower);
+        from-tail = o .from-tail;
+        to-head = o .to-head;
+        sum = o .sum;
+      })
+
+  entry-rules-kept : (s : Side) (r : ℕ) (e : Entry) → EntryRules n h s r e → EntryRules n k s r e
+  entry-rules-kept s r e x =
+      record {
+        base-below = x .base-below;
+        base-rank = agree .ranks _ (x .base-below) ∙ x .base-rank;
+        neighbour-below = x .neighbour-below;
+        neighbour-higher = rw (agree .ranks _ (x .neighbour-below)) (x .neighbour-higher);
+        weight-low = x .weight-low;
+        weight-high = x .weight-high;
+        numbers = elim (x .numbers) [ inl plain ↦ inl plain | inr opens ↦ inr (opens-kept s e (x .base-below) opens) ];
+      }
+
+  side-rules-kept : (s : Side) → Shape n (table k s) → SideRules n k s
+  unfolding used
+  side-rules-kept s shape =
+      let old = rules .side-rules s in
+      record {
+        columns = shape .columns;
+        places-for-starts = shape .places-for-starts;
+        begin-at-0 = agree .starts s 0 (omega arith) ∙ old .begin-at-0;
+        never-fall = λ r below. rw (agree .starts s r (omega arith), agree .starts s (suc r) (omega arith)) (old .never-fall r below);
+        end-within = shape .end-within;
+        entry-rules =
+            λ r below e low high.
+            let from : begin (table h s) r ≤ e = rw (agree .starts s r (omega arith)) at low in
+            let to : e < begin (table h s) (suc r) = rw (agree .starts s (suc r) (omega arith)) at high in
+            let last = rising (begin (table h s)) n (old .never-fall) (suc r) below in
+            rw (agree .entries s e (omega (arith, to, last))) (entry-rules-kept s r (entry (table h s) e) (old .entry-rules r below e from to));
+      }
+
+  pub rules-kept : n ≤ length (k .ranks) → ((s : Side) → Shape n (table k s)) → TableRules n k
+  rules-kept long shapes =
+      record {
+        nodes = rules .nodes;
+        places-for-ranks = long;
+        ranks-below = λ v below. rw (agree .ranks v below) (rules .ranks-below v below);
+        ranks-differ = λ u v hu hv same. rules .ranks-differ u v hu hv (rw (agree .ranks u hu, agree .ranks v hv) at same);
+        side-rules = λ s. side-rules-kept s (shapes s);
       }
