@@ -5,7 +5,7 @@ use Prim.Native.Nat.{ℕ, _+_, _*_, _≤_}
 use lib.ListN.{length}
 use Rattle.rules.specs.Graph.{Arc, addOrReduce}
 use Rattle.rules.specs.Search.{Search, init}
-use Rattle.routes.proofs.SearchBounds.{init-paid, added-paid}
+use Rattle.search_laws.proofs.Bounds.{init-paid, added-paid}
 use Rattle.graph.specs.declared.preparation_graph.Pool.{Pool}
 use Rattle.search.specs.declared.witness_search.WitnessSearch.{WitnessSearch}
 use Rattle.search.specs.Labels.{Stamped}
