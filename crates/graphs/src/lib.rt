@@ -6,7 +6,7 @@ ghost use Prim.Native.Nat.{ℕ, _*_, _<_, _≤_};
 ghost use lib.ListN.{length};
 ghost use Rattle.rules.specs.Refusals.{graph-refusal};
 ghost use Rattle.rules.specs.Graph.{Arc};
-ghost use Rattle.rules.proofs.Decides.{Decides};
+ghost use Rattle.rules.specs.Lists.{Decides};
 ghost use Rattle.input_graph.specs.Given.{links};
 ghost use Rattle.lists.specs.Memory.{memory, arc-at, arc};
 ghost use Rattle.lists.specs.Walks.{Reads};

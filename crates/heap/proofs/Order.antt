@@ -9,7 +9,8 @@ use native.Mathlib.Omega.{arith}
 use lib.Dec.{ltb, leb}
 use borrow.Author.Tests.{ltb-true, ltb-false, leb-true, leb-false}
 use Rattle.rules.specs.Heap.{Item, leaves-first, push}
-use Rattle.rules.proofs.Decides.{Decides, ltb-decides, leb-decides, eqb-decides, and-decides, or-decides}
+use Rattle.rules.specs.Lists.{Decides}
+use Rattle.rules.proofs.Decides.{ltb-decides, leb-decides, eqb-decides, and-decides, or-decides}
 use Rattle.heap.specs.Shape.{First}
 
 -- what the test says of the numbers

@@ -8,10 +8,10 @@ use lib.Dec.{eqb, ltb, leb}
 use lib.ListN.{length, getD}
 use borrow.Author.Tests.{eqb-true, ltb-true, lt-ltb, not-true, not-false}
 use Rattle.rules.specs.Numbers.{maxLinks}
-use Rattle.rules.specs.Lists.{all, any}
+use Rattle.rules.specs.Lists.{Decides, all, any}
 use Rattle.rules.specs.Columns.{zip-links, linkList}
 use Rattle.rules.specs.Refusals.{names-none-above, columns-fit, graph-rows, graph-refusal}
-use Rattle.rules.proofs.Decides.{Decides, and-both, both-and}
+use Rattle.rules.proofs.Decides.{and-both, both-and}
 use Rattle.rules.proofs.Rows.{not-met}
 use Rattle.input_graph.specs.Given.{links, Even, Between, bad-in}
 use Rattle.input_graph.proofs.Rows.{above-rows}

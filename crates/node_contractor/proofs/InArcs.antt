@@ -7,12 +7,11 @@ use native.Mathlib.Omega.{arith}
 use lib.ListN.{length, getD, drop, length-drop}
 use Rattle.rules.specs.Numbers.{invalid}
 use Rattle.rules.specs.Lists.{In, keep}
-use Rattle.rules.specs.Graph.{Arc, outs, ins, disconnect}
+use Rattle.rules.specs.Graph.{Arc, outs, ins, Loopless, disconnect}
 use Rattle.rules.specs.Search.{Search, init}
 use Rattle.rules.specs.Build.{Step, went, refused, and-then, Contracting, shortcut, pairs-of, handle-shortcuts, contract-node}
-use Rattle.routes.proofs.Graphs.{in-outs, in-ins, in-disconnected}
-use Rattle.routes.proofs.Contraction.{Loopless, shortcuts-keep}
-use Rattle.routes.proofs.Levels.{in-added}
+use Rattle.search_laws.proofs.Graphs.{in-outs, in-ins, in-disconnected, in-added}
+use Rattle.build_laws.proofs.Contraction.{shortcuts-keep}
 use Rattle.lists.specs.Memory.{Memory, memory, arc-at, touches}
 use Rattle.lists.specs.Walks.{column, steps}
 use Rattle.lists.proofs.Walks.{tail-at, in-drop}

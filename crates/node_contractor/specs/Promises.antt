@@ -8,10 +8,9 @@ use lib.Dec.{eqb}
 use lib.ListN.{length}
 use Rattle.rules.specs.Numbers.{maxWeight}
 use Rattle.rules.specs.Lists.{In}
-use Rattle.rules.specs.Graph.{Arc, outs, ins}
+use Rattle.rules.specs.Graph.{Arc, outs, ins, Loopless}
 use Rattle.rules.specs.Search.{Search, init}
 use Rattle.rules.specs.Build.{Step, went, refused, Contracting, add, within-sum, pairs-of, handle-shortcuts, contract-node}
-use Rattle.routes.proofs.Contraction.{Loopless}
 use Rattle.lists.specs.Memory.{Memory, arc}
 use Rattle.graph.specs.declared.preparation_graph.Pool.{Pool}
 use Rattle.graph.specs.Stands.{Stands, Unmoved}

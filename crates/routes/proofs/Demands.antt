@@ -14,18 +14,20 @@ use Rattle.rules.specs.Build.{Step, went, refused, Building, contraction, built
 use Rattle.rules.specs.Query.{End, endList, Half, entered}
 use Rattle.rules.specs.Program.{digits, lines}
 use Rattle.rules.proofs.Cases.{on-test}
+use Rattle.walks.proofs.Cut.{cut-agrees}
+use Rattle.search_laws.specs.Paid.{Paid}
+use Rattle.search_laws.proofs.Bounds.{paid-heap, init-paid, added-paid, search-paid, run-enough, search-fuel-enough}
+use Rattle.build_laws.proofs.Accepted.{accepted-build}
+use Rattle.build_laws.proofs.Refused.{build-half}
+use Rattle.build_laws.proofs.Enough.{never-10, never-11}
+use Rattle.build_laws.proofs.Laws.{build-passes, cut-passes, ranks-inverse, no-neighbour-twice}
+use Rattle.query_laws.proofs.Unpacking.{unpacked-shortcut, unpacked-plain}
+use Rattle.query_laws.proofs.State.{Sound}
+use Rattle.query_laws.proofs.Turns.{rounds-keep}
+use Rattle.query_laws.proofs.Accepted.{accepted, entered-both, searched-both, searched-empty}
+use Rattle.query_laws.proofs.Bounds.{heap-room}
+use Rattle.query_laws.proofs.Chains.{climb-enough, root-enough}
 use Rattle.routes.specs.Demands.{Searched, begun, asked, added, Small, Demands}
-use Rattle.routes.proofs.Accepted.{accepted-build}
-use Rattle.routes.proofs.Refused.{build-half}
-use Rattle.routes.proofs.Enough.{never-10, never-11}
-use Rattle.routes.proofs.BuildLaws.{build-passes, ranks-inverse, no-neighbour-twice}
-use Rattle.routes.proofs.SearchBounds.{Paid, paid-heap, init-paid, added-paid, search-paid, run-enough, search-fuel-enough}
-use Rattle.routes.proofs.QueryTables.{unpacked-shortcut, unpacked-plain}
-use Rattle.routes.proofs.QueryState.{Sound}
-use Rattle.routes.proofs.QueryTurns.{rounds-keep}
-use Rattle.routes.proofs.QueryAccepted.{accepted, entered-both, searched-both, searched-empty}
-use Rattle.routes.proofs.QueryLaws.{heap-room}
-use Rattle.routes.proofs.QueryChains.{climb-enough, root-enough}
 use Rattle.routes.proofs.ProgramFuel.{digits-enough, lines-enough}
 use Rattle.routes.proofs.ThirdDemand.{third-demand}
 
@@ -81,6 +83,8 @@ demands =
     record {
       third-demand = third-demand;
       tables-pass = λ c b. build-passes c (b .weights) (b .number);
+      cut-tables-pass = λ c b. cut-passes c (b .weights) (b .number);
+      cut-tables-agree = cut-agrees;
       ranks-inverse = λ c b. ranks-inverse c (b .weights) (b .number);
       no-neighbour-twice = λ c b. no-neighbour-twice c (b .weights) (b .number);
       never-10 =

@@ -1,30 +1,4 @@
--- The proof of the demands, from the bottom up.
-pub mod Paths
-pub mod Graphs
-pub mod Searches
-pub mod Contraction
-pub mod Levels
-pub mod Runs
-pub mod Accepted
-pub mod Starts
-pub mod BuiltTables
-pub mod Room
-pub mod BuildHalf
-pub mod Refused
-pub mod Enough
-pub mod BuildLaws
-pub mod SearchBounds
-pub mod QueryTables
-pub mod QueryWalks
-pub mod QueryOffers
-pub mod QueryState
-pub mod QueryTaken
-pub mod QueryTurns
-pub mod QueryAccepted
-pub mod QueryLaws
-pub mod QueryChains
-pub mod QueryLeast
-pub mod QueryHalf
+-- The demands, from the laws of searches, builds and queries.
 pub mod ProgramFuel
 pub mod ThirdDemand
 pub mod Demands

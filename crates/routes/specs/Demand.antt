@@ -1,78 +1,22 @@
--- The third demand, on one page. What a walk is, what counts and what a weight is, is said here without running the
--- build or the query.
+-- The third demand. What a walk is, what counts and what a least walk is, is said in walks/specs Walks and query_laws/specs
+-- LeastWalk, without running the build or the query.
 use mathlib.Core.Path.{_≡_}
-use mathlib.Core.Logic.{_⊎_}
-use mathlib.Core.Bool.{true}
-use mathlib.Core.List.{List, [], _∷_}
-use Prim.Native.Nat.{ℕ, _+_, _≤_}
-use lib.ListN.{length}
-use Rattle.rules.specs.Numbers.{noWeight, maxLinkWeight}
-use Rattle.rules.specs.Lists.{In, distinct, over}
-use Rattle.rules.specs.Columns.{Link, linkList, Ends}
+use Prim.Native.Nat.{ℕ, _≤_}
+use Rattle.rules.specs.Numbers.{maxLinkWeight}
+use Rattle.rules.specs.Lists.{In}
+use Rattle.rules.specs.Columns.{linkList}
 use Rattle.rules.specs.Refusals.{BuildCall, QueryCall, query-refusal}
 use Rattle.rules.specs.Build.{build}
-use Rattle.rules.specs.Query.{endList, query}
+use Rattle.walks.specs.Agreement.{Agree}
+use Rattle.query_laws.specs.LeastWalk.{Answered}
 
--- a link from u to v of weight w
-abbrev pub Linked : List Link → ℕ → ℕ → ℕ → Type 0
-Linked ls u v w = In (record { tail = u; head = v; weight = w }) ls
-
--- a walk over none or more links, to t: where it starts, what its links weigh together, its nodes in order
-pub data Walk (ls : List Link) (t : ℕ) : ℕ → ℕ → List ℕ → Type 0 where
-  stay : Walk ls t t 0 (t ∷ [])
-  step : {u v w x : ℕ} {vs : List ℕ} → Linked ls u v w → Walk ls t v x vs → Walk ls t u (w + x) (u ∷ vs)
-
--- a node listed with an offset that is not the mark
-abbrev pub Counts : Ends → ℕ → ℕ → Type 0
-Counts es v o = In (record { node = v; offset = o }) (endList es) × (o ≡ noWeight → ⊥)
-
--- the least offset listed for a node
-abbrev pub Least : Ends → ℕ → ℕ → Type 0
-Least es v o = Counts es v o × ((p : ℕ) → Counts es v p → o ≤ p)
-
--- no counting source reaches a counting target
-abbrev pub Unreachable : List Link → Ends → Ends → Type 0
-Unreachable ls ss ts =
-    (s t o p w : ℕ) (vs : List ℕ) → Counts ss s o → Counts ts t p → Walk ls t s w vs → ⊥
-
--- The walk `vs` is an answer of weight `total`.
-pub record LeastWalk (ls : List Link) (ss ts : Ends) (total : ℕ) (vs : List ℕ) : Type 0 where
-  pub source : ℕ
-  pub target : ℕ
-  pub from : ℕ
-  pub to : ℕ
-  pub weight : ℕ
-  pub is-walk : Walk ls target source weight vs
-  pub from-least : Least ss source from
-  pub to-least : Least ts target to
-  pub makes : total ≡ from + weight + to
-  pub none-less : (s t o p w : ℕ) (us : List ℕ) → Counts ss s o → Counts ts t p → Walk ls t s w us → total ≤ o + w + p
-  pub no-node-twice : distinct vs ≡ true
-
--- "None", or a least walk; never a refusal.
-pub record AnsweredNone (ls : List Link) (q : QueryCall) : Type 0 where
-  pub number : query q .number ≡ 0
-  pub weight : query q .weight ≡ noWeight
-  pub walk : query q .walk ≡ []
-  pub path : query q .path ≡ q .path
-  pub unreachable : Unreachable ls (q .sources) (q .targets)
-
-pub record AnsweredWalk (ls : List Link) (q : QueryCall) : Type 0 where
-  pub number : query q .number ≡ 0
-  pub least-walk : LeastWalk ls (q .sources) (q .targets) (query q .weight) (query q .walk)
-  pub fits : length (query q .walk) ≤ q .nodes
-  pub path : query q .path ≡ over (q .path) (query q .walk)
-
-abbrev pub Answered : List Link → QueryCall → Type 0
-Answered ls q = AnsweredNone ls q ⊎ AnsweredWalk ls q
-
--- An accepted query on the tables of a build that was not refused. A link's weight is a number of 32 bits, as its
--- column has it.
+-- An accepted query on the tables of a build that was not refused, in the columns that it filled, in ones cut to the used
+-- entries or in longer ones. A link's weight is a number of 32 bits, as its column has it.
 pub record OnBuilt (c : BuildCall) (q : QueryCall) : Type 0 where
   pub weights : (w : ℕ) → In w (c .links .weights) → w ≤ maxLinkWeight
   pub built : build c .number ≡ 0
   pub nodes : q .nodes ≡ c .nodes
-  pub tables : q .hierarchy ≡ build c .hierarchy
+  pub tables : Agree (c .nodes) (build c .hierarchy) (q .hierarchy)
   pub accepted : query-refusal q ≡ 0
 
 abbrev pub ThirdDemand : Type 0

@@ -1,5 +1,5 @@
--- All that is proved of the definitions, on one page. Demand.antt says what a walk is and what counts; Promise.antt what a
--- build promises a query.
+-- All that is proved of the definitions, on one page. Demand.antt has the third demand and says where a walk is defined;
+-- walks/specs Promise.antt what a build promises a query.
 use mathlib.Core.Path.{_≡_}
 use mathlib.Core.Bool.{true, false}
 use mathlib.Core.List.{List, [], _∷_, _++_, map}
@@ -17,8 +17,9 @@ use Rattle.rules.specs.Build.{Built, build}
 use Rattle.rules.specs.Unpack.{is-shortcut, unpacked}
 use Rattle.rules.specs.Query.{Half, Answered, entered, rounds, climb, root, searched, query}
 use Rattle.rules.specs.Program.{Phase, digits, lines}
+use Rattle.walks.specs.Promise.{Promise}
+use Rattle.walks.specs.Agreement.{Agree, cut}
 use Rattle.routes.specs.Demand.{ThirdDemand}
-use Rattle.routes.specs.Promise.{Promise}
 
 -- A build that was not refused, of links whose weights are of 32 bits.
 pub record IsBuilt (c : BuildCall) : Type 0 where
@@ -40,8 +41,11 @@ pub record Small (n : ℕ) (h : Hierarchy) (s : Side) (ends : ℕ) (x : Half) : 
 pub record Demands : Type 0 where
   -- 1. The third demand.
   pub third-demand : ThirdDemand
-  -- 2. A build's tables pass the table check; ranks are the order's inverse; no neighbour twice in a node's entries.
+  -- 2. A build's tables pass the table check, also cut to the used places; ranks are the order's inverse; no neighbour twice in a
+  -- node's entries.
   pub tables-pass : (c : BuildCall) → IsBuilt c → check-refusal (c .nodes) (build c .hierarchy) ≡ 0
+  pub cut-tables-pass : (c : BuildCall) → IsBuilt c → check-refusal (c .nodes) (cut (c .nodes) (build c .hierarchy)) ≡ 0
+  pub cut-tables-agree : (n : ℕ) (h : Hierarchy) → Agree n h (cut n h)
   pub ranks-inverse : (c : BuildCall) → IsBuilt c → (r : ℕ) → r < c .nodes → rank (build c .hierarchy) (getD (c .order) r 0) ≡ r
   pub no-neighbour-twice : (c : BuildCall) → IsBuilt c → (s : Side) (v : ℕ) → v < c .nodes → distinct (map (λ e. e .neighbour) (entries (build c .hierarchy) s v)) ≡ true
   -- 3. Refusals that cannot come, and what stays in its range at every step.

@@ -1,6 +1,4 @@
 -- The demands, stated of the definitions.
-pub mod Paths
 pub mod Demand
-pub mod Promise
 pub mod Demands
 pub mod Unbuilt

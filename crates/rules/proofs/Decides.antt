@@ -1,13 +1,11 @@
--- A test decides a fact: it is true exactly if the fact holds. Tests joined by && and || decide facts joined likewise.
+-- Tests joined by && and || decide facts joined likewise.
 use mathlib.Core.Path.{_≡_, refl, sym, _∙_}
 use mathlib.Core.Logic.{_↔_, _⊎_, inl, inr}
 use mathlib.Core.Bool.{Bool, true, false, _&&_, _||_, false≢true}
 use Prim.Native.Nat.{ℕ, _≤_, _<_}
 use lib.Dec.{eqb, ltb, leb}
 use borrow.Author.Tests.{ltb-true, leb-true, eqb-true, lt-ltb, le-leb, eq-eqb}
-
-abbrev pub Decides : Bool → Type 0 → Type 0
-Decides b P = (b ≡ true) ↔ P
+use Rattle.rules.specs.Lists.{Decides}
 
 pub ltb-decides : (a b : ℕ) → Decides (ltb a b) (a < b)
 ltb-decides a b = (ltb-true a b, lt-ltb a b)

@@ -12,3 +12,14 @@ pub mod Arcs
 pub mod Heaps
 pub mod Rows
 pub mod Steps
+pub mod Ascending
+pub mod Refutes
+pub mod Sentences
+pub mod Numbers
+pub mod Accepted
+pub mod Ranks
+pub mod Outcomes
+pub mod Answers
+pub mod Turns
+pub mod Settles
+pub mod FirstDemand

@@ -1,4 +1,4 @@
--- What stands in a list: after keeping, mapping and testing, and at which place.
+-- What stands in a list: after keeping, mapping, testing and reading columns as links, and at which place.
 use mathlib.Core.Path.{_≡_, refl, sym, _∙_, ap}
 use mathlib.Core.Logic.{inl, inr}
 use mathlib.Core.Bool.{Bool, true, false, false≢true}
@@ -9,6 +9,7 @@ use lib.Dec.{eqb}
 use lib.ListN.{length, getD}
 use borrow.Author.Tests.{eqb-true}
 use Rattle.rules.specs.Lists.{In, all, any, keep}
+use Rattle.rules.specs.Columns.{Link, zip-links}
 use Rattle.rules.proofs.Cases.{on-test, neither}
 use Rattle.rules.proofs.Decides.{and-both, or-either, left-or, right-or}
 
@@ -114,3 +115,15 @@ module _ {A B : Type 0} (f : A → B) where
         | inl here ↦ List·Memᴰ·head (ap f here)
         | inr later ↦ List·Memᴰ·tail (map-in x ys later)
       ]
+
+-- a link's weight is a number of its column
+pub weight-in : (ts hs ws : List ℕ) (l : Link) → In l (zip-links ts hs ws) → In (l .weight) ws
+unfolding zip-links
+weight-in [] hs ws l m = absurd (List·Memᴰ·not-nil m)
+weight-in (t ∷ ts) [] ws l m = absurd (List·Memᴰ·not-nil m)
+weight-in (t ∷ ts) (h ∷ hs) [] l m = absurd (List·Memᴰ·not-nil m)
+weight-in (t ∷ ts) (h ∷ hs) (w ∷ ws) l m =
+    elim (List·Memᴰ·cases-cons m) [
+      | inl here ↦ List·Memᴰ·head (ap (λ x. x .weight) here)
+      | inr later ↦ List·Memᴰ·tail (weight-in ts hs ws l later)
+    ]

@@ -8,10 +8,10 @@ use native.Mathlib.Decide.{ℕ-discrete}
 use lib.Dec.{eqb}
 use lib.ListN.{length, getD}
 use borrow.Author.Tests.{eq-eqb, not-true}
-use Rattle.rules.specs.Lists.{all, any, distinct, range, count-from}
+use Rattle.rules.specs.Lists.{Decides, all, any, distinct, range, count-from}
 use Rattle.rules.proofs.Cases.{not-both}
 use Rattle.rules.proofs.Members.{in-any, any-same, getD-in, in-getD}
-use Rattle.rules.proofs.Decides.{Decides, and-both, both-and}
+use Rattle.rules.proofs.Decides.{and-both, both-and}
 
 module _ (p : ℕ → Bool) where
   counted-each : (a n : ℕ) → all p (count-from a n) ≡ true → (k : ℕ) → a ≤ k → k < a + n → p k ≡ true

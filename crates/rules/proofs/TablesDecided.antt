@@ -7,7 +7,8 @@ use lib.Seq.{getD-take, length-take-le}
 use Rattle.rules.specs.Numbers.{maxNodes, maxWeight, invalid}
 use Rattle.rules.specs.Columns.{Table, Entry, Hierarchy, Side, forward, backward, table, entry, rank, begin, places, room, equally-long, EquallyLong}
 use Rattle.rules.specs.TableRules.{tail-of, head-of, used, Fitting, EntryRules, SideRules, TableRules, opens-test, numbers-test, entry-test, shape-test, rank-test, side-test, ranks-test, table-test}
-use Rattle.rules.proofs.Decides.{Decides, ltb-decides, leb-decides, eqb-decides, and-decides, or-decides, if-decides, decides-as}
+use Rattle.rules.specs.Lists.{Decides}
+use Rattle.rules.proofs.Decides.{ltb-decides, leb-decides, eqb-decides, and-decides, or-decides, if-decides, decides-as}
 use Rattle.rules.proofs.Ranges.{all-decides, distinct-decides, Differ}
 
 pub columns-decided : (t : Table) → Decides (equally-long t) (EquallyLong t)

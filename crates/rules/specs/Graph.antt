@@ -1,10 +1,11 @@
 -- The preparation graph. Rules 1 to 4 only append an arc to two lists, change one in place in both, or remove arcs
 -- while the others keep their order: so it is ONE list of arcs, and a node's out list is those that leave it.
+use mathlib.Core.Path.{_≡_}
 use mathlib.Core.Bool.{Bool, true, false, not, _&&_, _||_}
 use mathlib.Core.List.{List, [], _∷_}
 use Prim.Native.Nat.{ℕ}
 use lib.Dec.{eqb, leb}
-use Rattle.rules.specs.Lists.{keep}
+use Rattle.rules.specs.Lists.{In, keep}
 
 pub record Arc : Type 0 where
   pub tail : ℕ
@@ -27,6 +28,15 @@ ins g v = keep (enters v) g
 -- the same ends
 unfoldable pub joins : Arc → Arc → Bool
 joins s a = eqb (a .tail) (s .tail) && eqb (a .head) (s .head)
+
+-- no arc leads from a node to itself
+abbrev pub Loopless : List Arc → Type 0
+Loopless g = (x : Arc) → In x g → x .tail ≡ x .head → ⊥
+
+-- no two arcs of the same ends, at any two places
+abbrev pub Apart : List Arc → Type 0
+Apart [] = Unit {0}
+Apart (x ∷ g) = ((y : Arc) → In y g → joins x y ≡ false) × Apart g
 
 -- "an arc a to b that weighs no more is kept; a heavier one takes the sum and centre v, in place"
 unfoldable pub reduce : Arc → Arc → Arc

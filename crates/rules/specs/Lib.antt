@@ -1,6 +1,7 @@
 -- Document 01 as definitions, in its order. Each is total and computes; contracts and proofs cite them.
 pub mod Numbers
 pub mod Lists
+pub mod Text
 pub mod Columns
 pub mod TableRules
 pub mod Refusals
@@ -11,5 +12,8 @@ pub mod Build
 pub mod Unpack
 pub mod Query
 pub mod Program
+pub mod FirstDemand
 pub mod Computing
 pub mod Bench
+pub mod Edges
+pub mod ProgramCases

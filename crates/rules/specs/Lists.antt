@@ -1,9 +1,15 @@
 -- What the definitions say of lists and tests, beyond the library's.
+use mathlib.Core.Path.{_≡_}
+use mathlib.Core.Logic.{_↔_}
 use mathlib.Core.Bool.{Bool, true, false, not, _&&_, _||_}
 use mathlib.Core.List.{List, [], _∷_, _++_, List·Memᴰ}
 use Prim.Native.Nat.{ℕ, zero, suc, _-_}
 use lib.Dec.{eqb}
 use lib.ListN.{length, drop, replicate}
+
+-- a test decides a fact: it is true exactly if the fact holds
+abbrev pub Decides : Bool → Type 0 → Type 0
+Decides b P = (b ≡ true) ↔ P
 
 -- stands in a list
 abbrev pub In {ℓ} : {A : Type ℓ} → A → List A → Type ℓ

@@ -9,7 +9,7 @@ use Rattle.rules.specs.Heap.{Item}
 use Rattle.rules.specs.Graph.{Arc}
 use Rattle.rules.specs.Search.{Search, offer, relax}
 use Rattle.rules.proofs.Cases.{on-test}
-use Rattle.routes.proofs.SearchBounds.{Grown, offer-grows}
+use Rattle.search_laws.proofs.Bounds.{Grown, offer-grows}
 use Rattle.search.specs.Turns.{cross}
 
 pub cross-offer : (avoid : ℕ) (i : Item) (s : Search) → (i .node ≡ avoid → ⊥) → cross avoid i s ≡ offer i s

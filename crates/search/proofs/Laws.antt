@@ -8,8 +8,8 @@ use lib.ListN.{length}
 use Rattle.rules.specs.Numbers.{maxWeight}
 use Rattle.rules.specs.Graph.{Arc, addOrReduce}
 use Rattle.rules.specs.Search.{Search, init}
-use Rattle.routes.proofs.Levels.{in-added}
-use Rattle.routes.proofs.SearchBounds.{init-paid, added-paid}
+use Rattle.search_laws.proofs.Graphs.{in-added}
+use Rattle.search_laws.proofs.Bounds.{init-paid, added-paid}
 use Rattle.lists.specs.Memory.{memory}
 use Rattle.graph.specs.Stands.{Stands}
 use Rattle.graph.specs.declared.preparation_graph.Pool.{Pool}

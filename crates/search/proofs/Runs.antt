@@ -5,7 +5,7 @@ use Prim.Native.Nat.{ℕ, suc, _+_, _-_, _<_, _≤_}
 use native.Mathlib.Omega.{arith}
 use lib.ListN.{length}
 use Rattle.rules.specs.Search.{Search, run, search-fuel}
-use Rattle.routes.proofs.SearchBounds.{left, paid-most, search-fuel-enough}
+use Rattle.search_laws.proofs.Bounds.{left, paid-most, search-fuel-enough}
 use Rattle.graph.proofs.Standing.{within-pool}
 use Rattle.search.specs.declared.witness_search.Progress.{Progress}
 use Rattle.search.specs.Turns.{Turn, turn}

@@ -10,7 +10,7 @@ use borrow.Author.Tests.{lt-ltb, le-ltb, lt-leb, le-leb}
 use Rattle.rules.specs.Heap.{Item}
 use Rattle.rules.specs.Search.{Search, with-heap, reached}
 use Rattle.rules.proofs.Lists.{empty-of-length}
-use Rattle.routes.proofs.SearchBounds.{passed-paid, settle-paid, settle-room, settle-count}
+use Rattle.search_laws.proofs.Bounds.{passed-paid, settle-paid, settle-room, settle-count}
 use Rattle.heap.specs.Items.{item}
 use Rattle.heap.specs.Promises.{Popped}
 use Rattle.heap.proofs.Laws.{holds-first}

@@ -10,7 +10,8 @@ use Rattle.rules.specs.Heap.{Item}
 use Rattle.rules.specs.Graph.{Arc}
 use Rattle.rules.specs.Search.{Search, with-heap, settle, reached, run}
 use Rattle.rules.proofs.Cases.{on-test}
-use Rattle.routes.proofs.SearchBounds.{Paid, left, passed-paid, passed-left, settle-paid, settle-left, run-enough}
+use Rattle.search_laws.specs.Paid.{Paid}
+use Rattle.search_laws.proofs.Bounds.{left, passed-paid, passed-left, settle-paid, settle-left, run-enough}
 use Rattle.search.specs.Turns.{Turn, stop, entry, take-from, take, turn-from, turn}
 
 module _ (g : List Arc) (avoid target sum : ℕ) where

@@ -8,7 +8,7 @@ use Rattle.rules.specs.Lists.{In}
 use Rattle.rules.specs.Heap.{Item}
 use Rattle.rules.specs.Graph.{Arc}
 use Rattle.rules.specs.Search.{Search}
-use Rattle.routes.proofs.SearchBounds.{Paid}
+use Rattle.search_laws.specs.Paid.{Paid}
 use Rattle.heap.specs.Promises.{Holds}
 use Rattle.graph.specs.declared.preparation_graph.Pool.{Pool}
 use Rattle.lists.specs.Memory.{memory}

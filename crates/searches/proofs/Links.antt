@@ -9,8 +9,7 @@ use Rattle.rules.specs.Lists.{In}
 use Rattle.rules.specs.Columns.{linkList}
 use Rattle.rules.specs.Graph.{Arc}
 use Rattle.rules.specs.Build.{link-arc, graph-of}
-use Rattle.rules.proofs.Members.{in-map, in-getD}
-use Rattle.routes.proofs.Starts.{weight-in}
+use Rattle.rules.proofs.Members.{in-map, in-getD, weight-in}
 use Rattle.input_graph.specs.Given.{links}
 
 pub light : (ts hs ws : List ℕ) → ((k : ℕ) → getD ws k 0 < 2 ^ 32) → (a : Arc) → In a (graph-of (links ts hs ws)) → a .weight ≤ maxWeight

@@ -5,10 +5,9 @@ use mathlib.Core.Path.{_≡_}
 use Prim.Native.Nat.{ℕ}
 use lib.ListN.{length}
 use Rattle.rules.specs.Build.{graph-of}
-use Rattle.rules.specs.Lists.{over}
+use Rattle.rules.specs.Lists.{Decides, over}
 use Rattle.rules.specs.Columns.{Links}
 use Rattle.rules.specs.Search.{Found, init}
-use Rattle.rules.proofs.Decides.{Decides}
 use Rattle.searches.specs.Asks.{ask-each, weights-of, counts-of, all-pairs}
 use Rattle.searches.specs.Fits.{Fitting, Searchable}
 

@@ -10,7 +10,7 @@ use Rattle.rules.specs.Numbers.{maxWeight}
 use Rattle.rules.specs.Columns.{Links}
 use Rattle.rules.specs.Graph.{Arc, outs, ins}
 use Rattle.rules.specs.Search.{Search, init}
-use Rattle.rules.proofs.Decides.{Decides}
+use Rattle.rules.specs.Lists.{Decides}
 use Rattle.graph.specs.declared.preparation_graph.Pool.{Pool}
 use Rattle.search.specs.declared.witness_search.WitnessSearch.{WitnessSearch}
 use Rattle.search.specs.Labels.{Stamped}

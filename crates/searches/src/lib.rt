@@ -4,7 +4,7 @@ ghost use mathlib.Core.Bool.{false};
 ghost use mathlib.Core.Path.{_≡_};
 ghost use lib.ListN.{length};
 ghost use Rattle.rules.specs.Columns.{Links};
-ghost use Rattle.rules.proofs.Decides.{Decides};
+ghost use Rattle.rules.specs.Lists.{Decides};
 ghost use Rattle.input_graph.specs.Given.{links, Between};
 ghost use Rattle.search.specs.Searching.{World, lent, Entering};
 ghost use Rattle.search.specs.Promises.{Some};

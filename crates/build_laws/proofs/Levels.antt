@@ -1,0 +1,319 @@
+-- What holds of every graph that a build meets, and of every level that it writes.
+use mathlib.Core.Path.{_≡_, refl, sym, _∙_, ap}
+use mathlib.Core.Logic.{_⊎_, inl, inr}
+use mathlib.Core.Bool.{Bool, false≢true}
+use mathlib.Core.List.{List, [], _∷_, _++_, List·Memᴰ·head, List·Memᴰ·tail, List·Memᴰ·cases-cons, List·Memᴰ·not-nil, List·Memᴰ·eq-of-singleton, Memᴰ·append-left, Memᴰ·append-right}
+use Prim.Native.Nat.{ℕ, suc, _+_, _≤_, _<_}
+use native.Mathlib.Omega.{arith}
+use native.Mathlib.Decide.{ℕ-discrete}
+use lib.Dec.{eqb, leb}
+use lib.ListN.{length}
+use borrow.Author.Tests.{eq-eqb}
+use Rattle.rules.specs.Numbers.{maxWeight, invalid}
+use Rattle.rules.specs.Lists.{In, keep, position}
+use Rattle.rules.specs.Columns.{Link, Side, forward, backward}
+use Rattle.rules.specs.Graph.{Arc, outs, ins, joins, Loopless, Apart, reduce, addOrReduce, disconnect}
+use Rattle.rules.specs.Build.{went, shortcut, contract-node, Level, arcs-of, neighbour-of}
+use Rattle.rules.proofs.Arcs.{joined-ends}
+use Rattle.rules.proofs.Decides.{both-and}
+use Rattle.rules.proofs.Cases.{on-test}
+use Rattle.rules.proofs.Members.{in-keep}
+use Rattle.rules.proofs.Positions.{same-position}
+use Rattle.walks.specs.Walks.{Linked}
+use Rattle.search_laws.proofs.Graphs.{in-outs, in-ins, in-disconnected, reduced, in-added}
+use Rattle.build_laws.proofs.Contraction.{shortcuts-keep, contracted}
+
+keep-apart : (p : Arc → Bool) (g : List Arc) → Apart g → Apart (keep p g)
+unfolding keep
+keep-apart p [] a = a
+keep-apart p (x ∷ g) a =
+    on-test (p x)
+    (λ t. rw (t, keep) (λ y m. a .0 y (in-keep p y g m .0), keep-apart p g (a .1)))
+    (λ t. rw (t, keep) (keep-apart p g (a .1)))
+
+same-joins : (x y z : Arc) → x .tail ≡ y .tail → x .head ≡ y .head → joins x z ≡ joins y z
+unfolding joins
+same-joins x y z p q = rw (p, q)
+
+joins-turned : (x y : Arc) → joins x y ≡ joins y x
+unfolding joins
+joins-turned x y =
+    on-test (joins x y)
+    (λ t.
+    let e = joined-ends x y t in
+    t ∙ sym (both-and _ _ (eq-eqb (x .tail) (y .tail) (sym (e .0))) (eq-eqb (x .head) (y .head) (sym (e .1)))))
+    (λ t.
+    on-test (joins y x)
+    (λ u.
+    let e = joined-ends y x u in
+    both-and _ _ (eq-eqb (y .tail) (x .tail) (sym (e .0))) (eq-eqb (y .head) (x .head) (sym (e .1))) ∙ sym u)
+    (λ u. t ∙ sym u))
+
+added-apart : (s : Arc) (g : List Arc) → Apart g → Apart (addOrReduce s g)
+unfolding addOrReduce
+added-apart s [] a = (λ y m. absurd (List·Memᴰ·not-nil m), tt)
+added-apart s (x ∷ g) a =
+    on-test (joins s x)
+    (λ t.
+    let r = reduced s x t in
+    rw (t, addOrReduce) (λ y m. same-joins (reduce s x) x y (r .0) (r .1) ∙ a .0 y m, a .1))
+    (λ t.
+    rw (t, addOrReduce) (
+      λ y m.
+          elim (in-added s g y m) [
+            | inl old ↦ a .0 y old
+            | inr new ↦ rw new (joins-turned x s ∙ t)
+          ],
+      added-apart s g (a .1),
+    ))
+
+-- arcs of the same ends are the same arc
+pub apart-same : (g : List Arc) → Apart g → (x y : Arc) → In x g → In y g → x .tail ≡ y .tail → x .head ≡ y .head → x ≡ y
+unfolding joins
+apart-same [] a x y mx my p q = absurd (List·Memᴰ·not-nil mx)
+apart-same (z ∷ g) a x y mx my p q =
+    elim (List·Memᴰ·cases-cons mx) [
+      | inl hx ↦
+          elim (List·Memᴰ·cases-cons my) [
+            | inl hy ↦ hx ∙ sym hy
+            | inr ly ↦
+                absurd
+                (false≢true
+                (sym (a .0 y ly) ∙ both-and _ _ (eq-eqb (y .tail) (z .tail) (sym p ∙ ap (λ k. k .tail) hx)) (eq-eqb (y .head) (z .head) (sym q ∙ ap (λ k. k .head) hx))))
+          ]
+      | inr lx ↦
+          elim (List·Memᴰ·cases-cons my) [
+            | inl hy ↦
+                absurd
+                (false≢true
+                (sym (a .0 x lx) ∙ both-and _ _ (eq-eqb (x .tail) (z .tail) (p ∙ ap (λ k. k .tail) hy)) (eq-eqb (x .head) (z .head) (q ∙ ap (λ k. k .head) hy))))
+            | inr ly ↦ apart-same g (a .1) x y lx ly p q
+          ]
+    ]
+
+-- the level that rule 2 writes for v, and the levels with it
+abbrev pub level-of : ℕ → List Arc → Level
+level-of v g = record { node = v; outs = outs g v; ins = ins g v }
+
+abbrev pub with-level : List Level → ℕ → List Arc → List Level
+with-level levels v g = levels ++ (level-of v g ∷ [])
+
+-- the end of an arc whose list it stands in
+unfoldable pub own-end : Side → Arc → ℕ
+own-end forward x = x .tail
+own-end backward x = x .head
+
+-- Over a fixed order and the input links.
+module _ (order : List ℕ) (ls : List Link) where
+  -- where a node stands in the order; its length where it does not
+  abbrev pub rank-of : ℕ → ℕ
+  rank-of u = position (eqb u) order
+
+  -- not contracted before rank r
+  abbrev pub Later : ℕ → ℕ → Type 0
+  Later r u = (r ≤ rank-of u) × (rank-of u < length order)
+
+  -- "an arc without centre is an input link; an arc with centre c sums an in-arc and an out-arc of c, which stand in a
+  -- level of lower rank"
+  pub record Opened (levels : List Level) (r : ℕ) (x : Arc) : Type 0 where
+    pub level : Level
+    pub written : In level levels
+    pub lower : rank-of (level .node) < r
+    pub node : level .node ≡ x .centre
+    pub into : Arc
+    pub into-in : In into (level .ins)
+    pub into-tail : into .tail ≡ x .tail
+    pub out : Arc
+    pub out-in : In out (level .outs)
+    pub out-head : out .head ≡ x .head
+    pub sum : into .weight + out .weight ≡ x .weight
+
+  abbrev pub Centred : List Level → ℕ → Arc → Type 0
+  Centred levels r x =
+      ((x .centre ≡ invalid) × Linked ls (x .tail) (x .head) (x .weight)) ⊎ Opened levels r x
+
+  pub record ArcOk (levels : List Level) (r : ℕ) (x : Arc) : Type 0 where
+    pub low : 1 ≤ x .weight
+    pub high : x .weight ≤ maxWeight
+    pub centred : Centred levels r x
+
+  -- a graph whose arcs join nodes of ranks from r on, with centres of ranks below t
+  pub record GraphOk (levels : List Level) (r t : ℕ) (g : List Arc) : Type 0 where
+    pub loopless : Loopless g
+    pub apart : Apart g
+    pub tails : (x : Arc) → In x g → Later r (x .tail)
+    pub heads : (x : Arc) → In x g → Later r (x .head)
+    pub arcs : (x : Arc) → In x g → ArcOk levels t x
+
+  -- more levels, and higher ranks
+  module _ {levels more : List Level} (sub : (l : Level) → In l levels → In l more) {r t : ℕ} (up : r ≤ t) where
+    pub arc-more : {x : Arc} → ArcOk levels r x → ArcOk more t x
+    arc-more a =
+        record {
+          low = a .low;
+          high = a .high;
+          centred =
+              elim (a .centred) [
+                | inl plain ↦ inl plain
+                | inr o ↦
+                    inr
+                    (record {
+                      level = o .level;
+                      written = sub (o .level) (o .written);
+                      lower = omega (arith, o .lower);
+                      node = o .node;
+                      into = o .into;
+                      into-in = o .into-in;
+                      into-tail = o .into-tail;
+                      out = o .out;
+                      out-in = o .out-in;
+                      out-head = o .out-head;
+                      sum = o .sum;
+                    })
+              ];
+        }
+
+    graph-more : (low : ℕ) (g : List Arc) → GraphOk levels low r g → GraphOk more low t g
+    graph-more low g k =
+        record {
+          loopless = k .loopless;
+          apart = k .apart;
+          tails = k .tails;
+          heads = k .heads;
+          arcs = λ x m. arc-more (k .arcs x m);
+        }
+
+  -- Contracting the node v of rank r, whose level is written.
+  module _ (pool limit v r : ℕ) (at : rank-of v ≡ r) (levels : List Level) (g : List Arc) (ok : GraphOk levels r r g) where
+    pub before : GraphOk (with-level levels v g) r (suc r) g
+    before = graph-more (λ l m. Memᴰ·append-left (level-of v g ∷ []) m) (omega arith) r g ok
+
+    -- a shortcut keeps it
+    pub adds : (a b : Arc) (k : List Arc) → In a (ins g v) → In b (outs g v) → (a .tail ≡ b .head → ⊥) →
+        a .weight + b .weight ≤ maxWeight → GraphOk (with-level levels v g) r (suc r) k →
+        GraphOk (with-level levels v g) r (suc r) (addOrReduce (shortcut pool limit v a b) k)
+    unfolding shortcut
+    adds a b k ma mb off small x =
+        record {
+          loopless = λ y m. elim (added y m) [ inl old ↦ x .loopless y old | inr new ↦ rw new off ];
+          apart = added-apart (shortcut pool limit v a b) k (x .apart);
+          tails =
+              λ y m.
+              elim (added y m) [
+                | inl old ↦ x .tails y old
+                | inr new ↦ rw new (ok .tails a (in-ins g v a ma .0))
+              ];
+          heads =
+              λ y m.
+              elim (added y m) [
+                | inl old ↦ x .heads y old
+                | inr new ↦ rw new (ok .heads b (in-outs g v b mb .0))
+              ];
+          arcs =
+              λ y m.
+              elim (added y m) [
+                | inl old ↦ x .arcs y old
+                | inr new ↦
+                    rw new
+                    (record {
+                      low = omega (arith, ok .arcs a (in-ins g v a ma .0) .low);
+                      high = small;
+                      centred =
+                          inr
+                          (record {
+                            level = level-of v g;
+                            written = Memᴰ·append-right levels (List·Memᴰ·head refl);
+                            lower = omega arith;
+                            node = refl;
+                            into = a;
+                            into-in = ma;
+                            into-tail = refl;
+                            out = b;
+                            out-in = mb;
+                            out-head = refl;
+                            sum = refl;
+                          });
+                    })
+              ];
+        }
+      where
+        added : (y : Arc) → In y (addOrReduce (shortcut pool limit v a b) k) → In y k ⊎ (y ≡ shortcut pool limit v a b)
+        added y m = in-added (shortcut pool limit v a b) k y m
+
+    -- of another node than v the rank is another
+    other : (u : ℕ) → Later r u → (u ≡ v → ⊥) → Later (suc r) u
+    other u l off = (
+      elim (ℕ-discrete (rank-of u) r) [
+        | yes same ↦ absurd (off (same-position order u v (same ∙ sym at) (l .1)))
+        | no more ↦ omega (arith, l .0)
+      ],
+      l .1,
+    )
+
+    pub contracted-ok : (k : List Arc) → contract-node pool limit v g ≡ went k → GraphOk (with-level levels v g) (suc r) (suc r) k
+    unfolding disconnect
+    contracted-ok k e =
+        let c = contracted pool limit v g k (ok .loopless) e in
+        let x =
+        shortcuts-keep pool limit v (GraphOk (with-level levels v g) r (suc r)) (ins g v) (outs g v) g (c .0)
+        (λ a b k ma mb off small _ y. adds a b k ma mb off small y)
+        (c .1)
+        before
+        in
+        rw (c .2)
+        (record {
+          loopless = λ y m. x .loopless y (in-disconnected (c .0) v y m .0);
+          apart = keep-apart _ (c .0) (x .apart);
+          tails =
+              λ y m. let d = in-disconnected (c .0) v y m in other (y .tail) (x .tails y (d .0)) (d .1);
+          heads =
+              λ y m. let d = in-disconnected (c .0) v y m in other (y .head) (x .heads y (d .0)) (d .2);
+          arcs = λ y m. x .arcs y (in-disconnected (c .0) v y m .0);
+        })
+
+  -- What a level holds: a node's arcs when its turn came.
+  pub record LevelOk (levels : List Level) (l : Level) : Type 0 where
+    pub node-in : rank-of (l .node) < length order
+    pub own : (s : Side) (x : Arc) → In x (arcs-of s l) → own-end s x ≡ l .node
+    pub higher : (s : Side) (x : Arc) → In x (arcs-of s l) → Later (suc (rank-of (l .node))) (neighbour-of s x)
+    pub arcs : (s : Side) (x : Arc) → In x (arcs-of s l) → ArcOk levels (rank-of (l .node)) x
+    pub apart : (s : Side) → Apart (arcs-of s l)
+
+  pub level-more : {levels more : List Level} → ((l : Level) → In l levels → In l more) → (l : Level) → LevelOk levels l → LevelOk more l
+  level-more sub l k =
+      record {
+        node-in = k .node-in;
+        own = k .own;
+        higher = k .higher;
+        arcs = λ s x m. arc-more sub (omega arith) (k .arcs s x m);
+        apart = k .apart;
+      }
+
+  module _ (v r : ℕ) (at : rank-of v ≡ r) (inside : r < length order) (levels : List Level) (g : List Arc) (ok : GraphOk levels r r g) where
+    pub level-ok : LevelOk (with-level levels v g) (level-of v g)
+    unfolding arcs-of own-end neighbour-of outs ins
+    level-ok =
+        record {
+          node-in = omega arith;
+          own = elim [ forward ↦ λ x m. in-outs g v x m .1 | backward ↦ λ x m. in-ins g v x m .1 ];
+          higher =
+              elim [
+                | forward ↦
+                    λ x m.
+                    let o = in-outs g v x m in
+                    rw at (other 0 0 v r at levels g ok (x .head) (ok .heads x (o .0)) (λ e. ok .loopless x (o .0) (o .1 ∙ sym e)))
+                | backward ↦
+                    λ x m.
+                    let i = in-ins g v x m in
+                    rw at (other 0 0 v r at levels g ok (x .tail) (ok .tails x (i .0)) (λ e. ok .loopless x (i .0) (e ∙ sym (i .1))))
+              ];
+          arcs =
+              elim [
+                | forward ↦ λ x m. more x (in-outs g v x m .0)
+                | backward ↦ λ x m. more x (in-ins g v x m .0)
+              ];
+          apart = elim [ forward ↦ keep-apart _ g (ok .apart) | backward ↦ keep-apart _ g (ok .apart) ];
+        }
+      where
+        more : (x : Arc) → In x g → ArcOk (with-level levels v g) (rank-of v) x
+        more x m = rw at (arc-more (λ l n. Memᴰ·append-left _ n) (omega arith) (ok .arcs x m))

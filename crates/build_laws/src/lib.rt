@@ -1,0 +1,1 @@
+// Laws of builds as defined: what a build that was not refused promises a query.

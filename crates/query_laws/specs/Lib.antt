@@ -1,0 +1,2 @@
+-- What a query must answer.
+pub mod LeastWalk

@@ -1,0 +1,152 @@
+-- With which numbers a build's steps can end.
+use mathlib.Core.Path.{_≡_, refl, sym, ap}
+use mathlib.Core.Logic.{_↔_, _⊎_}
+use mathlib.Core.Bool.{Bool, _&&_}
+use mathlib.Core.List.{List, [], _∷_, _++_}
+use Prim.Native.Nat.{ℕ, _+_, _≤_, _<_}
+use native.Mathlib.Omega.{arith}
+use lib.Dec.{eqb, ltb, leb}
+use lib.ListN.{length}
+use borrow.Author.Tests.{leb-false, lt-leb, ltb-true, lt-ltb}
+use Rattle.rules.specs.Numbers.{maxWeight}
+use Rattle.rules.specs.Columns.{linkList, forward, backward, room}
+use Rattle.rules.specs.Refusals.{Row, first-met, BuildCall, graph-rows, order-rows, build-refusal, QueryCall, check-rows, end-rows, query-refusal}
+use Rattle.rules.specs.Graph.{Arc, outs, ins}
+use Rattle.rules.specs.Search.{init, find-max-weight}
+use Rattle.rules.specs.Build.{Step, went, refused, and-then, in-pool, from-links, Contracting, add, unless-witness, ask, within-sum, shortcut, pair, pairs-of, handle-shortcuts, contract-node, Level, raws, in-tables, Building, rank-step, rank-steps, contraction}
+use Rattle.rules.proofs.Cases.{on-test}
+use Rattle.rules.proofs.Steps.{refused-not-went}
+use Rattle.rules.proofs.Refutes.{not-within, and-refutes}
+
+-- rows of numbers up to k
+abbrev pub UpTo : ℕ → List Row → Type 0
+UpTo k [] = Unit {0}
+UpTo k (r ∷ rs) = (r .number ≤ k) × UpTo k rs
+
+first-up-to : (k : ℕ) (rs : List Row) → UpTo k rs → first-met rs ≤ k
+unfolding first-met
+first-up-to k [] h = omega arith
+first-up-to k (r ∷ rs) h =
+    on-test (r .met) (λ t. rw (t, first-met) (h .0)) (λ t. rw (t, first-met) (first-up-to k rs (h .1)))
+
+pub build-refusal-most : (c : BuildCall) → build-refusal c ≤ 9
+unfolding build-refusal graph-rows order-rows
+build-refusal-most c = first-up-to 9 (graph-rows (c .nodes) (c .links) ++ order-rows c) (omega arith)
+
+pub query-refusal-most : (q : QueryCall) → query-refusal q ≤ 24
+unfolding query-refusal check-rows end-rows
+query-refusal-most q = first-up-to 24 (check-rows (q .nodes) (q .hierarchy) ++ end-rows q) (omega arith)
+
+-- Whatever number a step ends with passes P.
+module _ (P : ℕ → Type 0) where
+  module _ {A : Type 0} where
+    abbrev pub Only : Step A → Type 0
+    Only m = (r : ℕ) → m ≡ refused r → P r
+
+    pub went-only : (a : A) → Only (went a)
+    went-only a r e = absurd (refused-not-went (sym e))
+
+    pub refused-only : (k : ℕ) → P k → Only (refused k)
+    refused-only k p r e = let same : k ≡ r = cc in rw same at p
+
+  pub then-only : {A B : Type 0} (m : Step A) (f : A → Step B) → Only m → ((a : A) → m ≡ went a → Only (f a)) → Only (and-then m f)
+  unfolding and-then
+  then-only (went a) f p q = q a refl
+  then-only (refused k) f p q = λ r e. p r (let same : k ≡ r = cc in ap refused same)
+
+  -- A leaf's own number is all that it can end with.
+  pub pool-leaf : P 10 → (pool : ℕ) (g : List Arc) → Only (in-pool pool g)
+  unfolding in-pool
+  pool-leaf ten pool g =
+      on-test (leb (length g) pool)
+      (λ t. rw (t, in-pool) (went-only g))
+      (λ t. rw (t, in-pool) (refused-only 10 ten))
+
+  pub tables-leaf : P 11 → (fwd bwd : ℕ) (levels : List Level) → Only (in-tables fwd bwd levels)
+  unfolding in-tables
+  tables-leaf eleven fwd bwd levels =
+      on-test (leb (length (raws forward levels)) fwd && leb (length (raws backward levels)) bwd)
+      (λ t. rw (t, in-tables) (went-only levels))
+      (λ t. rw (t, in-tables) (refused-only 11 eleven))
+
+  pub ask-leaf : P 10 → (pool limit v : ℕ) (s : Arc) (c : Contracting) → Only (ask pool limit v s c)
+  unfolding ask unless-witness add
+  ask-leaf ten pool limit v s c =
+      on-test (leb (find-max-weight (c .graph) v limit (s .head) (s .weight) (c .search) .weight) (s .weight))
+      (λ w. rw (w, unless-witness) (went-only _))
+      (λ w. rw (w, unless-witness) (then-only _ _ (pool-leaf ten pool _) (λ m _. went-only _)))
+
+  -- The steps, where 10, 11 and 12 pass.
+  module _ (ten : P 10) (eleven : P 11) (twelve : P 12) where
+    module _ (pool limit v : ℕ) where
+      pair-leaf : (a b : Arc) (c : Contracting) → Only (pair pool limit v a b c)
+      unfolding pair within-sum shortcut
+      pair-leaf a b c =
+          on-test (eqb (a .tail) (b .head))
+          (λ t. rw (t, pair) (went-only c))
+          (λ t.
+          rw (t, pair)
+          (on-test (ltb maxWeight (a .weight + b .weight))
+          (λ u. rw (u, within-sum) (refused-only 12 twelve))
+          (λ u. rw (u, within-sum) (ask-leaf ten pool limit v _ c))))
+
+      pairs-leaf : (a : Arc) (bs : List Arc) (c : Contracting) → Only (pairs-of pool limit v a bs c)
+      unfolding pairs-of
+      pairs-leaf a [] c = went-only c
+      pairs-leaf a (b ∷ bs) c = then-only _ _ (pair-leaf a b c) (λ k _. pairs-leaf a bs k)
+
+      shortcuts-leaf : (xs bs : List Arc) (g : List Arc) → Only (handle-shortcuts pool limit v xs bs g)
+      unfolding handle-shortcuts
+      shortcuts-leaf [] bs g = went-only g
+      shortcuts-leaf (a ∷ xs) bs g =
+          then-only _ _ (pairs-leaf a bs (record { graph = g; search = init (a .tail) })) (λ c _. shortcuts-leaf xs bs (c .graph))
+
+      contract-leaf : (g : List Arc) → Only (contract-node pool limit v g)
+      unfolding contract-node
+      contract-leaf g = then-only _ _ (shortcuts-leaf (ins g v) (outs g v) g) (λ k _. went-only _)
+
+    steps-leaf : (c : BuildCall) (vs : List ℕ) (b : Building) → Only (rank-steps c vs b)
+    unfolding rank-steps rank-step
+    steps-leaf c [] b = went-only b
+    steps-leaf c (v ∷ vs) b =
+        then-only _ _
+        (then-only _ _ (tables-leaf eleven (room (c .lent .forward)) (room (c .lent .backward)) _)
+        (λ levels _. then-only _ _ (contract-leaf (c .pool) (c .limit) v (b .graph)) (λ g _. went-only _)))
+        (λ k _. steps-leaf c vs k)
+
+    pub contraction-leaf : (c : BuildCall) → Only (contraction c)
+    unfolding contraction from-links
+    contraction-leaf c = then-only _ _ (pool-leaf ten (c .pool) _) (λ g _. steps-leaf c (c .order) _)
+
+pub contraction-numbers : (c : BuildCall) (r : ℕ) → contraction c ≡ refused r → (10 ≤ r) × (r ≤ 12)
+contraction-numbers c = contraction-leaf (λ r. (10 ≤ r) × (r ≤ 12)) (omega arith) (omega arith) (omega arith) c
+
+-- Each number comes exactly where its step meets it.
+went-not-refused : {A : Type 0} {a : A} {r : ℕ} → _≡_ {A = Step A} (went a) (refused r) → ⊥
+went-not-refused e = refused-not-went (sym e)
+
+pub pool-exceeded : (pool : ℕ) (g : List Arc) → (in-pool pool g ≡ refused 10) ↔ (pool < length g)
+unfolding in-pool
+pool-exceeded pool g = (
+  λ e. on-test (leb (length g) pool) (λ t. absurd (went-not-refused (rw (t, in-pool) at e))) (leb-false (length g) pool),
+  λ h. rw (lt-leb (length g) pool h, in-pool),
+)
+
+pub table-exceeded : (fwd bwd : ℕ) (ls : List Level) → (in-tables fwd bwd ls ≡ refused 11) ↔ ((fwd < length (raws forward ls)) ⊎ (bwd < length (raws backward ls)))
+unfolding in-tables
+table-exceeded fwd bwd ls =
+    let unfit = and-refutes (not-within (length (raws forward ls)) fwd) (not-within (length (raws backward ls)) bwd) in (
+      λ e.
+          on-test (leb (length (raws forward ls)) fwd && leb (length (raws backward ls)) bwd)
+          (λ t. absurd (went-not-refused (rw (t, in-tables) at e))) (unfit .0),
+      λ h. rw (unfit .1 h, in-tables),
+    )
+
+pub sum-exceeded : (pool limit v : ℕ) (s : Arc) (k : Contracting) → (within-sum pool limit v s k ≡ refused 12) ↔ (maxWeight < s .weight)
+unfolding within-sum
+sum-exceeded pool limit v s k = (
+  λ e.
+      on-test (ltb maxWeight (s .weight)) (ltb-true maxWeight (s .weight))
+      (λ t. absurd (omega (arith, ask-leaf (λ r. r ≡ 10) refl pool limit v s k 12 (rw (t, within-sum) at e)))),
+  λ h. rw (lt-ltb maxWeight (s .weight) h, within-sum),
+)

@@ -1,0 +1,2 @@
+-- What the code of the search keeps.
+pub mod Paid
