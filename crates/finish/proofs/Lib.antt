@@ -1,0 +1,4 @@
+-- What the proofs share.
+pub mod Seeking
+pub mod Opening
+pub mod Finishing
