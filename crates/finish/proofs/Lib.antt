@@ -2,3 +2,4 @@
 pub mod Seeking
 pub mod Opening
 pub mod Finishing
+pub mod Ending

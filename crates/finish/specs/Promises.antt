@@ -10,6 +10,7 @@ use Rattle.rules.specs.TableRules.{tail-of, head-of}
 use Rattle.rules.specs.Refusals.{BuildCall}
 use Rattle.rules.specs.Build.{went, Raw, raws, Building, open-entry, finish, finished, starts-of, ranks-of, contraction}
 use Rattle.build_laws.proofs.Accepted.{AcceptedBuild}
+use Rattle.entries.specs.Laid.{begun-of}
 use Rattle.finish.specs.declared.Numbers.{Numbers}
 
 -- the starts of rank r and of the next can be read, and the rank's entries
@@ -93,3 +94,31 @@ pub record Inverse (n : ℕ) (order ranks : List ℕ) : Type 0 where
 
 abbrev pub Ranks : (order ranks ranks′ : List ℕ) → Type 0
 Ranks order ranks ranks′ = (n : ℕ) → Inverse n order ranks → ranks′ ≡ over ranks (ranks-of order n)
+
+-- all of it: the ranks are laid, and ranks and second numbers as they were lent
+pub record Ending (c : BuildCall) (b : Building) (n : ℕ) (order : List ℕ) (fwd bwd : ℕ) (ranks fs fb fn fi fo bs bb bn bi bo : List ℕ) : Type 0 where
+  pub whole : Whole c b
+  pub nodes-are : c .nodes ≡ n
+  pub order-is : c .order ≡ order
+  pub fwd-count : fwd ≡ length (raws forward (b .levels))
+  pub bwd-count : bwd ≡ length (raws backward (b .levels))
+  pub ranks-are : ranks ≡ c .lent .ranks
+  pub fwd-starts : fs ≡ over (c .lent .forward .starts) (begun-of forward (b .levels))
+  pub fwd-bases : fb ≡ over (c .lent .forward .bases) (map (λ r. r .base) (raws forward (b .levels)))
+  pub fwd-neighbours : fn ≡ over (c .lent .forward .neighbours) (map (λ r. r .neighbour) (raws forward (b .levels)))
+  pub fwd-ins : fi ≡ over (c .lent .forward .in-numbers) (map (λ r. r .centre) (raws forward (b .levels)))
+  pub fwd-outs : fo ≡ c .lent .forward .out-numbers
+  pub bwd-starts : bs ≡ over (c .lent .backward .starts) (begun-of backward (b .levels))
+  pub bwd-bases : bb ≡ over (c .lent .backward .bases) (map (λ r. r .base) (raws backward (b .levels)))
+  pub bwd-neighbours : bn ≡ over (c .lent .backward .neighbours) (map (λ r. r .neighbour) (raws backward (b .levels)))
+  pub bwd-ins : bi ≡ over (c .lent .backward .in-numbers) (map (λ r. r .centre) (raws backward (b .levels)))
+  pub bwd-outs : bo ≡ c .lent .backward .out-numbers
+
+pub record Ended (c : BuildCall) (b : Building) (ranks fs fi fo bs bi bo : List ℕ) : Type 0 where
+  pub ranks-are : ranks ≡ over (c .lent .ranks) (ranks-of (c .order) (c .nodes))
+  pub fwd-starts : fs ≡ over (c .lent .forward .starts) (starts-of forward (b .levels))
+  pub fwd-ins : fi ≡ over (c .lent .forward .in-numbers) (map (λ e. e .in-number) (finished forward (b .levels)))
+  pub fwd-outs : fo ≡ over (c .lent .forward .out-numbers) (map (λ e. e .out-number) (finished forward (b .levels)))
+  pub bwd-starts : bs ≡ over (c .lent .backward .starts) (starts-of backward (b .levels))
+  pub bwd-ins : bi ≡ over (c .lent .backward .in-numbers) (map (λ e. e .in-number) (finished backward (b .levels)))
+  pub bwd-outs : bo ≡ over (c .lent .backward .out-numbers) (map (λ e. e .out-number) (finished backward (b .levels)))

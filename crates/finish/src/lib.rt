@@ -5,7 +5,7 @@ ghost use lib.ListN.{length, getD};
 ghost use Rattle.rules.specs.Columns.{Side};
 ghost use Rattle.rules.specs.Refusals.{BuildCall};
 ghost use Rattle.rules.specs.Build.{Raw, Building};
-ghost use Rattle.finish.specs.Promises.{Seekable, Sought, Opening, Opens, Finishing, Finishes, Inverse, Ranks};
+ghost use Rattle.finish.specs.Promises.{Seekable, Sought, Opening, Opens, Finishing, Finishes, Inverse, Ranks, Ending, Ended};
 use rules::INVALID;
 
 // The first entry of a rank to, or from, u; where the rank ends if there is none.
@@ -106,4 +106,60 @@ fn write_ranks(order: &[u32], ranks: &mut [u32])
         ranks[order[r] as usize] = r as u32;
         r += 1;
     }
+}
+
+// The order's inverse, the last starts, and both tables.
+pub fn finish_contraction(
+    n: usize,
+    order: &[u32],
+    fwd: usize,
+    bwd: usize,
+    ranks: &mut [u32],
+    fwd_starts: &mut [u32],
+    fwd_bases: &[u32],
+    fwd_neighbours: &[u32],
+    fwd_ins: &mut [u32],
+    fwd_outs: &mut [u32],
+    bwd_starts: &mut [u32],
+    bwd_bases: &[u32],
+    bwd_neighbours: &[u32],
+    bwd_ins: &mut [u32],
+    bwd_outs: &mut [u32],
+)
+    requires { ⌜ ((c : BuildCall) × (b : Building) × Ending c b n (now order) fwd bwd
+        (now ranks) (now «fwd_starts») (now «fwd_bases») (now «fwd_neighbours») (now «fwd_ins») (now «fwd_outs»)
+        (now «bwd_starts») (now «bwd_bases») (now «bwd_neighbours») (now «bwd_ins») (now «bwd_outs»)) ⌝ }
+    ensures { λ _. ⌜ ((c : BuildCall) (b : Building) → Ending c b n (now (order .entry)) fwd bwd
+        (now (ranks .entry)) (now («fwd_starts» .entry)) (now («fwd_bases» .entry)) (now («fwd_neighbours» .entry)) (now («fwd_ins» .entry)) (now («fwd_outs» .entry))
+        (now («bwd_starts» .entry)) (now («bwd_bases» .entry)) (now («bwd_neighbours» .entry)) (now («bwd_ins» .entry)) (now («bwd_outs» .entry)) →
+        Ended c b (now (ranks .exit)) (now («fwd_starts» .exit)) (now («fwd_ins» .exit)) (now («fwd_outs» .exit))
+        (now («bwd_starts» .exit)) (now («bwd_ins» .exit)) (now («bwd_outs» .exit))) ⌝ }
+{
+    write_ranks(order, ranks);
+    fwd_starts[n] = fwd as u32;
+    bwd_starts[n] = bwd as u32;
+    finish_table(
+        fwd,
+        ranks,
+        fwd_starts,
+        fwd_neighbours,
+        bwd_starts,
+        bwd_neighbours,
+        fwd_bases,
+        fwd_neighbours,
+        fwd_ins,
+        fwd_outs,
+    );
+    finish_table(
+        bwd,
+        ranks,
+        fwd_starts,
+        fwd_neighbours,
+        bwd_starts,
+        bwd_neighbours,
+        bwd_neighbours,
+        bwd_bases,
+        bwd_ins,
+        bwd_outs,
+    );
 }
