@@ -37,7 +37,7 @@ order-decides n xs = (
 )
 
 -- Rows one after the other.
-later : (n : ℕ) (b : Bool) (rows rest : List Row) → first-met (row (suc n) b ∷ rows) ≡ 0 → (first-met rows ≡ 0 → first-met (rows ++ rest) ≡ first-met rest) →
+pub later : (n : ℕ) (b : Bool) (rows rest : List Row) → first-met (row (suc n) b ∷ rows) ≡ 0 → (first-met rows ≡ 0 → first-met (rows ++ rest) ≡ first-met rest) →
     first-met ((row (suc n) b ∷ rows) ++ rest) ≡ first-met rest
 unfolding first-met
 later n true rows rest e k = absurd (omega (arith, e))
