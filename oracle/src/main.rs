@@ -65,6 +65,8 @@ mod answer;
 #[cfg(beside)]
 mod beside;
 #[cfg(beside)]
+mod beside_builds;
+#[cfg(beside)]
 mod beside_graphs;
 mod changes;
 mod drawn;
@@ -101,6 +103,13 @@ fn main() {
         },
         #[cfg(beside)]
         ["race"] => beside::race(),
+        #[cfg(beside)]
+        ["builds", count, seed] => match (count.parse(), seed.parse()) {
+            (Ok(count), Ok(seed)) => beside_builds::compare(count, seed),
+            _ => fail("usage: oracle builds COUNT SEED"),
+        },
+        #[cfg(beside)]
+        ["race-builds"] => beside_builds::race(),
         ["time", "--write", folder, ref names @ ..] => timing::time(names, Some(Path::new(folder))),
         ["time", ref names @ ..] => timing::time(names, None),
         _ => fail("usage: oracle answer [--peak] | oracle drawn | oracle time [--write FOLDER] [GRAPH ...]"),
