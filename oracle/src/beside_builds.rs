@@ -279,7 +279,10 @@ fn spoil(numbers: &mut Rng, call: &mut Call) {
         match below(numbers, 16) {
             0 => call.links.n = 1025,
             1 if links > 0 => call.links.tails.truncate(links - 1),
-            2 if links > 0 => call.links.heads[below(numbers, call.links.heads.len())] = n as u32 + below(numbers, 3) as u32,
+            2 if links > 0 => {
+                let at = below(numbers, call.links.heads.len());
+                call.links.heads[at] = n as u32 + below(numbers, 3) as u32
+            }
             3 if links > 0 => call.links.heads[0] = call.links.tails[0],
             4 if links > 0 => call.links.weights[0] = 0,
             5 if links > 1 => call.links.tails.swap(0, links - 1),
