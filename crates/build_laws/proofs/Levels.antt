@@ -19,6 +19,7 @@ use Rattle.rules.proofs.Decides.{both-and}
 use Rattle.rules.proofs.Cases.{on-test}
 use Rattle.rules.proofs.Members.{in-keep}
 use Rattle.rules.proofs.Positions.{same-position}
+use Rattle.rules.proofs.Ranks.{level-of, with-level}
 use Rattle.walks.specs.Walks.{Linked}
 use Rattle.search_laws.proofs.Graphs.{in-outs, in-ins, in-disconnected, reduced}
 use Rattle.build_laws.proofs.Contraction.{shortcuts-keep, contracted}
@@ -110,13 +111,6 @@ apart-same (z ∷ g) a x y mx my p q =
             | inr ly ↦ apart-same g (a .1) x y lx ly p q
           ]
     ]
-
--- the level that rule 2 writes for v, and the levels with it
-abbrev pub level-of : ℕ → List Arc → Level
-level-of v g = record { node = v; outs = outs g v; ins = ins g v }
-
-abbrev pub with-level : List Level → ℕ → List Arc → List Level
-with-level levels v g = levels ++ (level-of v g ∷ [])
 
 -- the end of an arc whose list it stands in
 unfoldable pub own-end : Side → Arc → ℕ

@@ -31,7 +31,7 @@ module _ (c : BuildCall) where
   build-number r low high =
       elim (ended c) [
         | early k p a b e ↦ (λ x. omega (arith, number-of _ e), λ x. omega (arith, number-of _ e))
-        | late k p a b e ↦ (λ x. absurd (omega (arith, number-of _ e)), λ x. absurd (omega arith))
+        | late k p m a b e ↦ (λ x. absurd (omega (arith, number-of _ e)), λ x. absurd (omega arith))
         | whole k p a e ↦ (λ x. absurd (omega (arith, number-of _ e)), λ x. absurd (omega arith))
       ]
 
@@ -42,7 +42,7 @@ module _ (c : BuildCall) where
           λ x. absurd (omega (arith, build-lowest c 0 .1 x)),
           λ x. elim x [ inl y ↦ absurd (omega (arith, number-of _ e)) | inr y ↦ absurd (omega (arith, y .0, number-of _ e)) ],
         )
-        | late k p a b e ↦ (λ _. inr (omega (arith, number-of _ e), omega (arith, number-of _ e)), λ _. build-lowest c 0 .0 p)
+        | late k p m a b e ↦ (λ _. inr (omega (arith, number-of _ e), omega (arith, number-of _ e)), λ _. build-lowest c 0 .0 p)
         | whole k p a e ↦ (λ _. inl (number-of _ e), λ _. build-lowest c 0 .0 p)
       ]
 
@@ -50,7 +50,7 @@ module _ (c : BuildCall) where
   untouched low high =
       elim (ended c) [
         | early k p a b e ↦ ap (λ b. b .hierarchy) e
-        | late k p a b e ↦ absurd (omega (arith, number-of _ e))
+        | late k p m a b e ↦ absurd (omega (arith, number-of _ e))
         | whole k p a e ↦ absurd (omega (arith, number-of _ e))
       ]
 
@@ -58,15 +58,15 @@ module _ (c : BuildCall) where
   filled high =
       elim (ended c) [
         | early k p a b e ↦ absurd (omega (arith, number-of _ e))
-        | late k p a b e ↦ rw e (marked-fills (c .lent))
+        | late k p m a b e ↦ rw e (marked-fills (c .lent))
         | whole k p a e ↦ absurd (omega (arith, number-of _ e))
       ]
 
   beyond : build c .number ≡ 0 → BeyondAll (c .nodes) (c .lent) (build c .hierarchy)
-  beyond zero =
+  beyond done =
       elim (ended c) [
         | early k p a b e ↦ absurd (omega (arith, number-of _ e))
-        | late k p a b e ↦ absurd (omega (arith, number-of _ e))
+        | late k p m a b e ↦ absurd (omega (arith, number-of _ e))
         | whole k p a e ↦ rw e (built-beyond c k p a)
       ]
 
@@ -121,7 +121,7 @@ module _ (q : QueryCall) where
       ]
 
   answered : query q .number ≡ 0 → Nothing q (query q) ⊎ Handed q (query q)
-  answered zero =
+  answered done =
       elim (answers.replied q) [
         | answers.early k p a b e ↦ inl (answers.nothing q k e)
         | answers.none p a e ↦ inl (answers.nothing q 0 e)

@@ -29,7 +29,7 @@ use Rattle.rules.proofs.Numbers.{build-refusal-most, contraction-number
 -- The three ends of a build.
 pub data Ended (c : BuildCall) : Type 0 where
   early : (r : ℕ) → build-refusal c ≡ r → 1 ≤ r → r ≤ 9 → build c ≡ record { number = r; hierarchy = c .lent } → Ended c
-  late : (r : ℕ) → build-refusal c ≡ 0 → 10 ≤ r → r ≤ 12 → build c ≡ record { number = r; hierarchy = marked (c .lent) } → Ended c
+  late : (r : ℕ) → build-refusal c ≡ 0 → contraction c ≡ refused r → 10 ≤ r → r ≤ 12 → build c ≡ record { number = r; hierarchy = marked (c .lent) } → Ended c
   whole : (b : Building) → build-refusal c ≡ 0 → contraction c ≡ went b → build c ≡ record { number = 0; hierarchy = finish-contraction c (b .levels) } → Ended c
 
 pub ended : (c : BuildCall) → Ended c
@@ -38,7 +38,7 @@ ended c = go (build-refusal c) refl (contraction c) refl
   where
     go : (k : ℕ) → build-refusal c ≡ k → (m : Step Building) → contraction c ≡ m → Ended c
     go zero p (went b) q = whole b p q (ap (unless-refused c) p ∙ ap (built c) q)
-    go zero p (refused r) q = let n = contraction-numbers c r q in late r p (n .0) (n .1) (ap (unless-refused c) p ∙ ap (built c) q)
+    go zero p (refused r) q = let n = contraction-numbers c r q in late r p q (n .0) (n .1) (ap (unless-refused c) p ∙ ap (built c) q)
     go (suc k) p m q = early (suc k) p (omega arith) (omega (arith, build-refusal-most c)) (ap (unless-refused c) p)
 
 -- Every place set to a mark.

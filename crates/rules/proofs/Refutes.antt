@@ -9,9 +9,9 @@ use native.Mathlib.Omega.{arith}
 use lib.Dec.{eqb, ltb, leb}
 use lib.ListN.{length, getD}
 use borrow.Author.Tests.{ltb-false, leb-false, le-ltb, lt-leb, not-true}
-use Rattle.rules.specs.Lists.{In, all, any, distinct}
+use Rattle.rules.specs.Lists.{Decides, In, all, any, distinct}
 use Rattle.rules.proofs.Cases.{on-test, not-both, neither}
-use Rattle.rules.proofs.Decides.{Decides, decides-as}
+use Rattle.rules.proofs.Decides.{decides-as}
 use Rattle.rules.proofs.Members.{in-any, any-in, any-same, getD-in, in-getD, all-each}
 use Rattle.rules.proofs.Ranges.{distinct-decides}
 
