@@ -23,7 +23,7 @@ abbrev pub UpTo : ℕ → List Row → Type 0
 UpTo k [] = Unit {0}
 UpTo k (r ∷ rs) = (r .number ≤ k) × UpTo k rs
 
-first-up-to : (k : ℕ) (rs : List Row) → UpTo k rs → first-met rs ≤ k
+pub first-up-to : (k : ℕ) (rs : List Row) → UpTo k rs → first-met rs ≤ k
 unfolding first-met
 first-up-to k [] h = omega arith
 first-up-to k (r ∷ rs) h =
