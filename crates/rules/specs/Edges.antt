@@ -100,12 +100,13 @@ unfoldable pub round-trip : Hierarchy
 round-trip =
     record {
       ranks = 0 ∷ 1 ∷ 2 ∷ 3 ∷ [];
-      forward = columns (0 ∷ 2 ∷ 3 ∷ 4 ∷ 4 ∷ []) (plain 0 1 1 ∷ plain 0 3 1 ∷ opened 1 3 2 1 1 ∷ opened 2 3 4 2 2 ∷ []);
-      backward = columns (0 ∷ 2 ∷ 3 ∷ 3 ∷ 3 ∷ []) (plain 0 2 1 ∷ plain 0 1 1 ∷ opened 1 2 2 0 0 ∷ []);
+      forward =
+          columns (0 ∷ 3 ∷ 4 ∷ 5 ∷ 5 ∷ []) (plain 0 1 1 ∷ plain 0 2 9 ∷ plain 0 3 1 ∷ opened 1 3 2 0 2 ∷ opened 2 3 4 2 3 ∷ []);
+      backward = columns (0 ∷ 2 ∷ 3 ∷ 3 ∷ 3 ∷ []) (plain 0 1 1 ∷ plain 0 2 1 ∷ opened 1 2 2 1 0 ∷ []);
     }
 
 unfoldable pub round-trip-asking : ℕ → QueryCall
-round-trip-asking places = asking round-trip 4 (at 2 0 ∷ []) (at 3 0 ∷ []) places (16 ∷ 16 ∷ 40 ∷ 38 ∷ [])
+round-trip-asking places = asking round-trip 4 (at 2 0 ∷ []) (at 3 0 ∷ []) places (16 ∷ 16 ∷ 42 ∷ 38 ∷ [])
 
 -- Tables of case L with another entry, and with other starts.
 unfoldable pub checked : List Hierarchy → List ℕ

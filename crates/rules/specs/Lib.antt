@@ -16,4 +16,5 @@ pub mod FirstDemand
 pub mod Computing
 pub mod Bench
 pub mod Edges
+pub mod SearchCases
 pub mod ProgramCases
