@@ -17,4 +17,5 @@ pub mod Computing
 pub mod Bench
 pub mod Edges
 pub mod SearchCases
+pub mod QueryCases
 pub mod ProgramCases
