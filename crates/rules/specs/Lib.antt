@@ -17,5 +17,6 @@ pub mod Computing
 pub mod Bench
 pub mod Edges
 pub mod SearchCases
+pub mod BuildCases
 pub mod QueryCases
 pub mod ProgramCases
