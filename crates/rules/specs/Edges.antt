@@ -189,6 +189,11 @@ pub table-one-less : built
 unfolding edging
 table-one-less = refl
 
+-- rule 1 is held to the pool as well: one link, and no place for it
+pub no-pool : built (lending (record { nodes = 2; links = link 0 1 1 ∷ []; order = 0 ∷ 1 ∷ []; limit = 0 }) L-places 0 L-scratch ∷ []) ≡ 10 ∷ []
+unfolding edging
+no-pool = refl
+
 -- a pair sum of 2^40, and of one more (the definitions are over all numbers; a link's column holds 32 bits)
 pub largest-sum : built (lending (L-of (2 ^ 39) (2 ^ 39)) L-places 3 L-scratch ∷ lending (L-of (2 ^ 39) (2 ^ 39 + 1)) L-places 3 L-scratch ∷ []) ≡ 0 ∷ 12 ∷ []
 unfolding edging

@@ -18,6 +18,8 @@ routes =
     route (record { nodes = 2; links = []; order = 0 ∷ 1 ∷ []; limit = 100 }) (at 0 0 ∷ at 1 0 ∷ []) (at 1 0 ∷ at 0 0 ∷ []) 0 (0 ∷ []) ∷
     -- ends that coincide come first
     route (record { nodes = 2; links = link 0 1 1 ∷ []; order = 0 ∷ 1 ∷ []; limit = 100 }) (at 0 0 ∷ at 1 1 ∷ []) (at 1 0 ∷ []) 1 (1 ∷ []) ∷
+    route (record { nodes = 2; links = link 0 1 1 ∷ []; order = 0 ∷ 1 ∷ []; limit = 100 }) (at 0 1099511627775 ∷ at 1 (2 ^ 40) ∷ []) (at 1 0 ∷ []) (2 ^ 40) (1 ∷ []) ∷
+    route (record { nodes = 3; links = []; order = 0 ∷ 1 ∷ 2 ∷ []; limit = 100 }) (at 2 4 ∷ []) (at 2 9 ∷ []) 13 (2 ∷ []) ∷
     -- no stalling on equal weight
     route (record { nodes = 4; links = link 1 0 1 ∷ link 2 1 3 ∷ []; order = 1 ∷ 0 ∷ 3 ∷ 2 ∷ []; limit = 100 }) (at 1 3 ∷ at 2 0 ∷ []) (at 0 1 ∷ at 3 0 ∷ []) 5 (1 ∷ 0 ∷ []) ∷
     -- not the first meeting
