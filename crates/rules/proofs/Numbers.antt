@@ -62,22 +62,27 @@ module _ (P : ℕ → Type 0) where
   -- A leaf's own number is all that it can end with.
   pub pool-leaf : P 10 → (pool : ℕ) (g : List Arc) → Only (in-pool pool g)
   unfolding in-pool
-  pool-leaf ten pool g = either-only _ (went-only g) (refused-only 10 ten)
+  pool-leaf ten pool g = either-only (leb (length g) pool) (went-only g) (refused-only 10 ten)
 
   pub tables-leaf : P 11 → (fwd bwd : ℕ) (levels : List Level) → Only (in-tables fwd bwd levels)
   unfolding in-tables
-  tables-leaf eleven fwd bwd levels = either-only _ (went-only levels) (refused-only 11 eleven)
+  tables-leaf eleven fwd bwd levels =
+      either-only (leb (length (raws forward levels)) fwd && leb (length (raws backward levels)) bwd) (went-only levels) (refused-only 11 eleven)
 
   pub ask-leaf : P 10 → (pool limit v : ℕ) (s : Arc) (c : Contracting) → Only (ask pool limit v s c)
   unfolding ask unless-witness add
-  ask-leaf ten pool limit v s c = either-only _ (went-only _) (then-only _ _ (pool-leaf ten _ _) (λ m _. went-only _))
+  ask-leaf ten pool limit v s c =
+      either-only (leb (find-max-weight (c .graph) v limit (s .head) (s .weight) (c .search) .weight) (s .weight)) (went-only _)
+      (then-only _ _ (pool-leaf ten _ _) (λ m _. went-only _))
 
   -- The steps, where 10, 11 and 12 pass.
   module _ (ten : P 10) (eleven : P 11) (twelve : P 12) where
     module _ (pool limit v : ℕ) where
       pair-leaf : (a b : Arc) (c : Contracting) → Only (pair pool limit v a b c)
-      unfolding pair within-sum
-      pair-leaf a b c = either-only _ (went-only c) (either-only _ (refused-only 12 twelve) (ask-leaf ten pool limit v _ c))
+      unfolding pair within-sum shortcut
+      pair-leaf a b c =
+          either-only (eqb (a .tail) (b .head)) (went-only c)
+          (either-only (ltb maxWeight (a .weight + b .weight)) (refused-only 12 twelve) (ask-leaf ten pool limit v (shortcut pool limit v a b) c))
 
       pairs-leaf : (a : Arc) (bs : List Arc) (c : Contracting) → Only (pairs-of pool limit v a bs c)
       unfolding pairs-of
