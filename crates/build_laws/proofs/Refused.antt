@@ -1,8 +1,7 @@
 -- With which numbers a contraction can end: one traversal of its steps, over what the numbers are to pass.
-use mathlib.Core.Path.{_≡_, refl, sym, _∙_, ap}
-use mathlib.Core.Bool.{_&&_}
+use mathlib.Core.Path.{_≡_, refl, ap}
 use mathlib.Core.List.{List, [], _∷_, List·Memᴰ·head, List·Memᴰ·tail, List·Memᴰ·eq-of-singleton, Memᴰ·cast}
-use Prim.Native.Nat.{ℕ, zero, suc, _+_, _≤_}
+use Prim.Native.Nat.{ℕ, suc, _+_, _≤_}
 use native.Mathlib.Omega.{arith}
 use lib.Dec.{eqb, ltb, leb}
 use lib.ListN.{length}
@@ -13,10 +12,9 @@ use Rattle.rules.specs.Columns.{Link, linkList, forward, backward, room}
 use Rattle.rules.specs.Refusals.{BuildCall, build-refusal}
 use Rattle.rules.specs.Graph.{Arc, outs, ins}
 use Rattle.rules.specs.Search.{init, find-max-weight}
-use Rattle.rules.specs.Build.{Step, went, refused, and-then, in-pool, from-links, Contracting, shortcut, add, unless-witness, ask, within-sum, pair, pairs-of, handle-shortcuts, contract-node, Level, raws, in-tables, Building, rank-step, rank-steps, contraction, finish-contraction, built, unless-refused, build}
+use Rattle.rules.specs.Build.{went, refused, in-pool, from-links, Contracting, shortcut, add, unless-witness, ask, within-sum, pair, pairs-of, handle-shortcuts, contract-node, Level, in-tables, Building, rank-step, rank-steps, contraction, finish-contraction, build}
 use Rattle.rules.specs.Lists.{In}
 use Rattle.rules.proofs.Cases.{on-test}
-use Rattle.rules.proofs.Steps.{refused-not-went}
 use Rattle.rules.proofs.Accepted.{AcceptedBuild, accepted-build}
 use Rattle.rules.proofs.Ranks.{Stepped, rank-stepped, with-level}
 use Rattle.rules.proofs.Numbers.{Only, went-only, refused-only, then-only}

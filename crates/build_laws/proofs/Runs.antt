@@ -1,26 +1,23 @@
 -- The run over the order: every level is as it should be, and what the graph reaches goes up and down by levels.
 use mathlib.Core.Path.{_≡_, refl, sym, _∙_, ap}
 use mathlib.Core.Logic.{inl, inr}
-use mathlib.Core.Bool.{_&&_}
 use mathlib.Core.List.{List, [], _∷_, _++_, map, map-append, append-assoc, List·Memᴰ·head, List·Memᴰ·not-nil, List·Memᴰ·eq-of-singleton, Memᴰ·cast, Memᴰ·append-left, Memᴰ·append-right, List·Memᴰ·append-cases}
 use Prim.Native.Nat.{ℕ, suc, _+_, _-_, _≤_, _<_, zero-le}
 use native.Mathlib.Omega.{arith}
 use native.Mathlib.Numerals.{add-one}
 use native.Mathlib.Nat.{add-sub-of-le}
 use native.Mathlib.Decide.{ℕ-discrete}
-use lib.Dec.{eqb, leb}
+use lib.Dec.{eqb}
 use lib.ListN.{length, getD, length-append, length-map}
 use lib.Seq.{getD-append-seam, getD-append-add}
-use borrow.Author.Tests.{eq-eqb, leb-true}
+use borrow.Author.Tests.{eq-eqb}
 use Rattle.rules.specs.Lists.{In}
-use Rattle.rules.specs.Columns.{Link, Side, forward, backward, room}
+use Rattle.rules.specs.Columns.{Link, Side, forward, backward}
 use Rattle.rules.specs.Refusals.{BuildCall}
 use Rattle.rules.specs.Graph.{Arc}
-use Rattle.rules.specs.Build.{went, in-tables, contract-node, Level, arcs-of, neighbour-of, raws, Building, rank-step, rank-steps}
-use Rattle.rules.proofs.Decides.{and-both}
+use Rattle.rules.specs.Build.{went, Level, arcs-of, neighbour-of, Building, rank-step, rank-steps}
 use Rattle.rules.proofs.Ranges.{Differ}
-use Rattle.rules.proofs.Cases.{on-test}
-use Rattle.rules.proofs.Steps.{went-same, refused-not-went, both-went}
+use Rattle.rules.proofs.Steps.{went-same, both-went}
 use Rattle.rules.proofs.Members.{getD-in, in-rest}
 use Rattle.rules.proofs.Positions.{position-is, position-first}
 use Rattle.rules.proofs.Ranks.{level-of, with-level, Stepped, rank-stepped}

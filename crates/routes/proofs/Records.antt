@@ -1,12 +1,12 @@
 -- What the record program writes, record by record: whole lines, and for each byte read no more than 17.
 use mathlib.Core.Path.{_≡_, refl, sym, _∙_, ap, subst}
 use mathlib.Core.Logic.{_⊎_, inl, inr}
-use mathlib.Core.Bool.{Bool, true, false, _&&_}
+use mathlib.Core.Bool.{true, _&&_}
 use mathlib.Core.List.{List, [], _∷_, _++_, append-assoc, append-nil, List·Memᴰ·head, List·Memᴰ·tail, List·Memᴰ·cases-cons, List·Memᴰ·not-nil, List·Memᴰ·eq-of-singleton, List·Memᴰ·append-cases}
 use Prim.Native.Nat.{ℕ, zero, suc, _+_, _*_, _≤_, _<_}
 use native.Mathlib.Omega.{arith}
 use native.Mathlib.Decide.{decLt}
-use lib.Dec.{eqb, ltb, leb}
+use lib.Dec.{eqb, ltb}
 use lib.ListN.{length, getD, drop, length-append, length-drop, List·getD-eq-default}
 use borrow.Author.Tests.{eqb-true, ltb-false, le-ltb, lt-ltb}
 use Rattle.rules.specs.Numbers.{maxLinkWeight, programNodes, programLinks, maxInput}
@@ -19,14 +19,13 @@ use Rattle.rules.specs.Build.{build}
 use Rattle.rules.specs.Query.{End, zip-ends, endList, query}
 use Rattle.rules.specs.Program.{word-built, word-route, word-none, word-refused, word-bad-record, word-too-long, decimal, line, refused-line, built-line, route-line, bad-record, record-length, kind-of, whole, u16-at, u32-at, link-at, blank-table, program-call, query-call, Phase, waiting, gathering, answering, Next, goes-on, stops, misplaced, after-build, at-limit, answer-line, no-order-yet, act, at-end, follow, lines, program}
 use Rattle.rules.proofs.Cases.{on-test}
-use Rattle.rules.proofs.Decides.{and-both}
 use Rattle.rules.proofs.Members.{getD-in, weight-in}
 use Rattle.rules.proofs.Accepted.{accepted-build}
 use Rattle.rules.proofs.FirstDemand.{first-demand}
 use Rattle.rules.proofs.Prefixes.{flat-map-append}
 use Rattle.walks.specs.Walks.{Walk, stay, step}
 use Rattle.build_laws.proofs.Refused.{build-went}
-use Rattle.query_laws.specs.LeastWalk.{AnsweredNone, AnsweredWalk}
+use Rattle.query_laws.specs.LeastWalk.{AnsweredWalk}
 use Rattle.query_laws.proofs.Accepted.{accepted}
 use Rattle.routes.specs.Records as spec
 use Rattle.routes.specs.Records.{AllBytes, Told, Line, Lines, Records}

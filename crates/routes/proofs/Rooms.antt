@@ -2,18 +2,18 @@
 -- node that there is not.
 use mathlib.Core.Path.{_≡_, refl, sym, _∙_, ap, subst}
 use mathlib.Core.Logic.{_⊎_, inl, inr}
-use mathlib.Core.Bool.{Bool, true, false, not, _&&_, _||_}
-use mathlib.Core.List.{List, [], _∷_, _++_, map}
-use Prim.Native.Nat.{ℕ, zero, suc, _+_, _-_, _*_, _≤_, _<_}
+use mathlib.Core.Bool.{Bool, true, false, not, _&&_}
+use mathlib.Core.List.{List, [], _∷_, _++_}
+use Prim.Native.Nat.{ℕ, suc, _-_, _*_, _≤_}
 use native.Mathlib.Omega.{arith}
 use native.Mathlib.Nat.{mul-le-mul}
-use lib.Dec.{eqb, ltb, leb}
-use lib.ListN.{length, getD, replicate, take}
+use lib.Dec.{ltb}
+use lib.ListN.{take}
 use borrow.Author.Tests.{le-ltb}
 use Rattle.rules.specs.Numbers.{maxLinkWeight}
 use Rattle.rules.specs.Lists.{In, all}
-use Rattle.rules.specs.Columns.{Link, linkList, equally-long, room, Hierarchy}
-use Rattle.rules.specs.Refusals.{Row, row, first-met, short, BuildCall, table-short, lent-short, graph-rows, order-rows, build-refusal, build-scratch, QueryCall, query-scratch, ends-fit, offset-fits, check-rows, end-rows, check-refusal, query-refusal}
+use Rattle.rules.specs.Columns.{Link, linkList, equally-long, room}
+use Rattle.rules.specs.Refusals.{Row, row, first-met, short, BuildCall, table-short, lent-short, graph-rows, order-rows, build-refusal, build-scratch, QueryCall, query-scratch, ends-fit, offset-fits, check-rows, end-rows, query-refusal}
 use Rattle.rules.specs.TableRules.{table-test}
 use Rattle.rules.specs.Build.{build}
 use Rattle.rules.specs.Query.{query, no-route}
@@ -22,7 +22,7 @@ use Rattle.rules.proofs.Cases.{on-test}
 use Rattle.rules.proofs.Members.{in-map}
 use Rattle.rules.proofs.TablesDecided.{tables-decided}
 use Rattle.rules.proofs.Accepted.{accepted-build}
-use Rattle.rules.proofs.Numbers.{UpTo, first-up-to}
+use Rattle.rules.proofs.Numbers.{first-up-to}
 use Rattle.rules.proofs.Outcomes.{early, late, whole, ended}
 use Rattle.rules.proofs.Answers as answers
 use Rattle.build_laws.proofs.Refused.{build-half}

@@ -1,8 +1,8 @@
 -- The first demand, proved.
-use mathlib.Core.Path.{_≡_, refl, sym, _∙_, ap}
-use mathlib.Core.Logic.{_↔_, _⊎_, inl, inr}
+use mathlib.Core.Path.{_≡_, refl, ap}
+use mathlib.Core.Logic.{_↔_, _⊎_, inl, inr, Iff·trans}
 use mathlib.Core.List.{List, [], _∷_, map, List·Memᴰ·cases-cons, List·Memᴰ·not-nil}
-use Prim.Native.Nat.{ℕ, suc, _+_, _-_, _*_, _^_, _≤_, _<_}
+use Prim.Native.Nat.{ℕ, _-_, _^_, _≤_, _<_}
 use native.Mathlib.Omega.{arith}
 use lib.ListN.{length}
 use Rattle.rules.specs.Lists.{In}
@@ -12,13 +12,13 @@ use Rattle.rules.specs.Refusals.{BuildCall, QueryCall, build-scratch, qu
 use Rattle.rules.specs.Search.{init}
 use Rattle.rules.specs.Build.{Built, build}
 use Rattle.rules.specs.Query.{Answered, searched, walk, no-route, query}
-use Rattle.rules.specs.FirstDemand.{Sentence, _says_, Lowest, build-table, query-table, FilledAll, BeyondAll, Nothing, Handed, Linear, Modest, value, last-start, FirstDemand}
+use Rattle.rules.specs.FirstDemand.{Lowest, build-table, query-table, FilledAll, BeyondAll, Nothing, Handed, Linear, Modest, value, last-start, FirstDemand}
 use Rattle.rules.proofs.Cases.{on-test}
 use Rattle.rules.proofs.Decides.{denied}
 use Rattle.rules.proofs.TablesDecided.{tables-decided}
 use Rattle.rules.proofs.Numbers.{pool-exceeded, table-exceeded, sum-exceeded}
 use Rattle.rules.proofs.Sentences.{build-lowest, query-lowest, check-decided}
-use Rattle.rules.proofs.Outcomes.{Ended, early, late, whole, ended, marked-fills, built-beyond}
+use Rattle.rules.proofs.Outcomes.{early, late, whole, ended, marked-fills, built-beyond}
 use Rattle.rules.proofs.Answers as answers
 use Rattle.rules.proofs.Settles.{stands, search-settles}
 
@@ -196,11 +196,7 @@ first-demand =
       program-input = refl;
       program-nodes = refl;
       program-links = refl;
-      build-refused =
-          λ c r low high.
-          let number = build-number c r low high in
-          let lowest = build-lowest c r in
-          (λ e. lowest .0 (number .0 e), λ x. number .1 (lowest .1 x));
+      build-refused = λ c r low high. Iff·trans (build-number c r low high) (build-lowest c r);
       build-works = build-works;
       untouched = untouched;
       filled = filled;
@@ -210,11 +206,7 @@ first-demand =
       sum-exceeded = sum-exceeded;
       check-refused = check-refused;
       check-passes = check-passes;
-      query-refused =
-          λ q r low high.
-          let number = query-number q r low high in
-          let lowest = query-lowest q r in
-          (λ e. lowest .0 (number .0 e), λ x. number .1 (lowest .1 x));
+      query-refused = λ q r low high. Iff·trans (query-number q r low high) (query-lowest q r);
       query-works = query-works;
       too-long = too-long;
       refused-nothing = refused-nothing;

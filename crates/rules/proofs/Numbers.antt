@@ -9,7 +9,7 @@ use lib.Dec.{eqb, ltb, leb}
 use lib.ListN.{length}
 use borrow.Author.Tests.{leb-false, lt-leb, ltb-true, lt-ltb}
 use Rattle.rules.specs.Numbers.{maxWeight}
-use Rattle.rules.specs.Columns.{linkList, forward, backward, room}
+use Rattle.rules.specs.Columns.{forward, backward}
 use Rattle.rules.specs.Refusals.{Row, first-met, BuildCall, graph-rows, order-rows, build-refusal, QueryCall, check-rows, end-rows, query-refusal}
 use Rattle.rules.specs.Graph.{Arc, outs, ins}
 use Rattle.rules.specs.Search.{init, find-max-weight}

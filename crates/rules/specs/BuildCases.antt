@@ -1,11 +1,9 @@
 -- The build where its rules turn: whole tables, which the Rust gives too.
 use mathlib.Core.Path.{_≡_, refl}
 use mathlib.Core.List.{List, [], _∷_, map}
-use Prim.Native.Nat.{ℕ, _^_, _+_}
-use Rattle.rules.specs.Columns.{Link, Hierarchy}
-use Rattle.rules.specs.Build.{build}
-use Rattle.rules.specs.Bench.{Given, Case, tables, observed, stated, lending, asking, blank, columns, opened, plain, at, link, L-with, L-direct, L-tables}
-use Rattle.rules.specs.Computing.{computing}
+use Prim.Native.Nat.{ℕ, _^_}
+use Rattle.rules.specs.Columns.{Link}
+use Rattle.rules.specs.Bench.{Given, Case, tables, observed, stated, columns, opened, plain, link, L-tables, observing}
 
 unfoldable pub given : ℕ → List Link → List ℕ → ℕ → Given
 given n ls order limit = record { nodes = n; links = ls; order = order; limit = limit }
@@ -60,5 +58,5 @@ built =
     []
 
 pub built-hold : map observed built ≡ map stated built
-unfolding built L-blind given observed stated lending asking blank columns opened plain at link L-tables computing
+unfolding built L-blind given L-tables observing
 built-hold = refl

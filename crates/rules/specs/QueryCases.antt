@@ -8,9 +8,8 @@ use lib.ListN.{getD}
 use Rattle.rules.specs.Numbers.{noWeight, invalid}
 use Rattle.rules.specs.Heap.{Item}
 use Rattle.rules.specs.Columns.{Hierarchy, Side, forward, backward}
-use Rattle.rules.specs.Query.{End, Best, Label, Half, untouched, enter, Turned, turn}
-use Rattle.rules.specs.Bench.{Given, Case, route, observed, stated, lending, asking, blank, columns, opened, plain, at, link}
-use Rattle.rules.specs.Computing.{computing}
+use Rattle.rules.specs.Query.{Best, Label, Half, untouched, enter, turn}
+use Rattle.rules.specs.Bench.{Case, route, observed, stated, columns, plain, at, link, observing}
 
 unfoldable pub routes : List Case
 routes =
@@ -29,7 +28,7 @@ routes =
     []
 
 pub routes-hold : map observed routes ≡ map stated routes
-unfolding routes observed stated lending asking blank columns opened plain at link computing
+unfolding routes observing
 routes-hold = refl
 
 -- One turn. Node 0 leads forward to 2, by 1, and is reached from 1, by 2.
@@ -83,7 +82,7 @@ unfoldable pub sees : List Label → List Bool → List Item → ℕ → ℕ →
 sees labels settled heap sum node = record { labels = labels; settled = settled; heap = heap; sum = sum; node = node }
 
 unfoldable pub looking : Unit {0}
-unfolding fork label item bare half seen best turned sees columns plain opened computing
+unfolding fork label item bare half seen best turned sees observing
 looking = tt
 
 -- with its heap empty it ends
@@ -163,5 +162,5 @@ meets-equal = refl
 -- Ends enter where their offset is below the node's label: the second at 4, not the third at 4, nor one with the mark.
 pub entering : seen (enter (at 1 9 ∷ at 1 4 ∷ at 1 4 ∷ at 2 18446744073709551615 ∷ at 0 4 ∷ []) untouched) (best 0 0) ≡
     sees (label 4 0 invalid ∷ label 4 1 invalid ∷ bare ∷ []) (false ∷ false ∷ false ∷ []) (item 4 0 ∷ item 4 1 ∷ item 9 1 ∷ []) 0 0
-unfolding at looking
+unfolding looking
 entering = refl

@@ -2,9 +2,9 @@
 -- weights is needed.
 use mathlib.Core.Path.{_≡_, refl, sym, _∙_, ap}
 use mathlib.Core.Logic.{inl, inr}
-use mathlib.Core.Bool.{false, _||_}
+use mathlib.Core.Bool.{_||_}
 use mathlib.Core.List.{List, [], _∷_, List·Memᴰ·head, List·Memᴰ·tail, List·Memᴰ·eq-of-singleton, Memᴰ·cast}
-use Prim.Native.Nat.{ℕ, zero, suc, _+_, _<_, zero-le}
+use Prim.Native.Nat.{ℕ, _+_, _<_, zero-le}
 use native.Mathlib.Decide.{ℕ-discrete}
 use native.Mathlib.Omega.{arith}
 use lib.Dec.{eqb, ltb, leb}
@@ -13,7 +13,7 @@ use Rattle.rules.specs.Numbers.{noWeight}
 use Rattle.rules.specs.Lists.{In}
 use Rattle.rules.specs.Heap.{Item}
 use Rattle.rules.specs.Graph.{Arc, outs, disconnect}
-use Rattle.rules.specs.Search.{Search, init, offer, relax, with-heap, mark-settled, settle, reached, run, search-fuel, answer, find-max-weight}
+use Rattle.rules.specs.Search.{Search, init, offer, relax, with-heap, mark-settled, settle, answer, find-max-weight}
 use Rattle.rules.proofs.Cases.{on-test}
 use Rattle.rules.proofs.Heaps.{update-same, update-other, push-in}
 use Rattle.rules.proofs.Turns.{search-keeps}
