@@ -6,19 +6,25 @@ use mathlib.Core.List.{List, [], _∷_, map}
 use Prim.Native.Nat.{ℕ, _^_, _+_}
 use lib.ListN.{getD}
 use Rattle.rules.specs.Numbers.{noWeight, invalid}
+use Rattle.rules.specs.Lists.{range}
 use Rattle.rules.specs.Heap.{Item}
 use Rattle.rules.specs.Columns.{Hierarchy, Side, forward, backward}
 use Rattle.rules.specs.Query.{Best, Label, Half, untouched, enter, turn}
-use Rattle.rules.specs.Bench.{Case, route, observed, stated, columns, plain, at, link, observing}
+use Rattle.rules.specs.Bench.{Given, Case, route, observed, stated, columns, plain, at, link, observing}
+
+-- so many nodes, and no links
+unfoldable pub apart : ℕ → Given
+apart n = record { nodes = n; links = []; order = range 0 n; limit = 100 }
 
 unfoldable pub routes : List Case
 routes =
-    -- sources are the outer loop of the first step, which sets the meeting node
-    route (record { nodes = 2; links = []; order = 0 ∷ 1 ∷ []; limit = 100 }) (at 0 0 ∷ at 1 0 ∷ []) (at 1 0 ∷ at 0 0 ∷ []) 0 (0 ∷ []) ∷
+    -- sources are the outer loop of the first step, which sets the meeting node before any turn
+    route (apart 2) (at 0 0 ∷ at 1 0 ∷ []) (at 1 0 ∷ at 0 0 ∷ []) 0 (0 ∷ []) ∷
+    route (apart 2) (at 1 0 ∷ at 0 0 ∷ []) (at 0 0 ∷ at 1 0 ∷ []) 0 (1 ∷ []) ∷
+    route (apart 2) (at 1 (2 ^ 40) ∷ at 0 (2 ^ 40) ∷ []) (at 0 0 ∷ at 1 0 ∷ []) (2 ^ 40) (1 ∷ []) ∷
+    route (apart 3) (at 2 4 ∷ []) (at 2 9 ∷ []) 13 (2 ∷ []) ∷
     -- ends that coincide come first
     route (record { nodes = 2; links = link 0 1 1 ∷ []; order = 0 ∷ 1 ∷ []; limit = 100 }) (at 0 0 ∷ at 1 1 ∷ []) (at 1 0 ∷ []) 1 (1 ∷ []) ∷
-    route (record { nodes = 2; links = link 0 1 1 ∷ []; order = 0 ∷ 1 ∷ []; limit = 100 }) (at 0 1099511627775 ∷ at 1 (2 ^ 40) ∷ []) (at 1 0 ∷ []) (2 ^ 40) (1 ∷ []) ∷
-    route (record { nodes = 3; links = []; order = 0 ∷ 1 ∷ 2 ∷ []; limit = 100 }) (at 2 4 ∷ []) (at 2 9 ∷ []) 13 (2 ∷ []) ∷
     -- no stalling on equal weight
     route (record { nodes = 4; links = link 1 0 1 ∷ link 2 1 3 ∷ []; order = 1 ∷ 0 ∷ 3 ∷ 2 ∷ []; limit = 100 }) (at 1 3 ∷ at 2 0 ∷ []) (at 0 1 ∷ at 3 0 ∷ []) 5 (1 ∷ 0 ∷ []) ∷
     -- not the first meeting
@@ -28,7 +34,7 @@ routes =
     []
 
 pub routes-hold : map observed routes ≡ map stated routes
-unfolding routes observing
+unfolding routes apart observing
 routes-hold = refl
 
 -- One turn. Node 0 leads forward to 2, by 1, and is reached from 1, by 2.
