@@ -1,4 +1,5 @@
--- Document 01 as definitions, in its order. Each is total and computes; contracts and proofs cite them.
+-- Document 01 as definitions, in its order. Each is total and computes; contracts and proofs cite them. Then the first demand of
+-- them, and cases.
 pub mod Numbers
 pub mod Lists
 pub mod Text
