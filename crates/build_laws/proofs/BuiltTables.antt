@@ -92,11 +92,11 @@ unfolding own-end raw neighbour-of tail-of head-of
 entry-ends forward v x e own k = (k .base ∙ sym own, k .neighbour)
 entry-ends backward v x e own k = (k .neighbour, k .base ∙ sym own)
 
-ranks-length : (order : List ℕ) (n : ℕ) → length (ranks-of order n) ≡ n
+pub ranks-length : (order : List ℕ) (n : ℕ) → length (ranks-of order n) ≡ n
 unfolding ranks-of
 ranks-length order n = length-map (range 0 n) _ ∙ range-length 0 n ∙ omega arith
 
-ranks-at : (order : List ℕ) (n v d : ℕ) → v < n → getD (ranks-of order n) v d ≡ position (eqb v) order
+pub ranks-at : (order : List ℕ) (n v d : ℕ) → v < n → getD (ranks-of order n) v d ≡ position (eqb v) order
 unfolding ranks-of
 ranks-at order n v d h =
     map-at (λ v. position (eqb v) order) (range 0 n) v 0 d (rw (range-length 0 n) (omega arith)) ∙
@@ -250,7 +250,7 @@ module _ (c : BuildCall) (ok : AcceptedBuild c) (small : (w : ℕ) → In w (c .
       (sym (ap (λ x. x .neighbour) (arc .2)) ∙ nb)
 
   -- Rule 5's lookup finds the arc.
-  found : (s : Side) (l : Level) → In l L → (y : Arc) → In y (arcs-of s l) →
+  pub found : (s : Side) (l : Level) → In l L → (y : Arc) → In y (arcs-of s l) →
       (place (raws s L) (l .node) (neighbour-of s y) < entry-count s) ×
       (getD (raws s L) (place (raws s L) (l .node) (neighbour-of s y)) no-raw ≡ raw s (l .node) y)
   unfolding place raws level-raws raw

@@ -48,7 +48,7 @@ triangle-twice zero = refl
 triangle-twice (suc n) = triangle-next n ∙ ap (λ k. suc n * k) (omega arith)
 
 -- a level of rank r has at most n - 1 - r arcs a side: the neighbours' ranks are higher, and differ
-level-short : (order : List ℕ) (ls : List Link) (levels : List Level) (l : Level) → LevelOk order ls levels l → (s : Side) →
+pub level-short : (order : List ℕ) (ls : List Link) (levels : List Level) (l : Level) → LevelOk order ls levels l → (s : Side) →
     length (arcs-of s l) ≤ length order - suc (rank-of order ls (l .node))
 level-short order ls levels l ok s =
     omega (

@@ -21,7 +21,7 @@ use Rattle.rules.proofs.Members.{in-keep}
 use Rattle.rules.proofs.Positions.{same-position}
 use Rattle.rules.proofs.Ranks.{level-of, with-level}
 use Rattle.walks.specs.Walks.{Linked}
-use Rattle.search_laws.proofs.Graphs.{in-outs, in-ins, in-disconnected, reduced}
+use Rattle.search_laws.proofs.Graphs.{in-outs, in-ins, in-disconnected, reduced, in-added}
 use Rattle.build_laws.proofs.Contraction.{shortcuts-keep, contracted}
 
 keep-apart : (p : Arc → Bool) (g : List Arc) → Apart g → Apart (keep p g)
@@ -31,26 +31,6 @@ keep-apart p (x ∷ g) a =
     on-test (p x)
     (λ t. rw (t, keep) (λ y m. a .0 y (in-keep p y g m .0), keep-apart p g (a .1)))
     (λ t. rw (t, keep) (keep-apart p g (a .1)))
-
--- what an arc of the graph afterwards is: an old one, a reduced one, or the new one
-in-added : (s : Arc) (g : List Arc) (y : Arc) → In y (addOrReduce s g) → In y g ⊎ (y ≡ s)
-unfolding addOrReduce reduce
-in-added s [] y m = inr (List·Memᴰ·eq-of-singleton m)
-in-added s (x ∷ g) y m =
-    on-test (joins s x)
-    (λ t.
-    elim (List·Memᴰ·cases-cons (rw (t, addOrReduce) at m)) [
-      | inl here ↦
-          on-test (leb (x .weight) (s .weight))
-          (λ u. inl (List·Memᴰ·head (rw (u, reduce) at here)))
-          (λ u. inr (rw (u, reduce) at here))
-      | inr later ↦ inl (List·Memᴰ·tail later)
-    ])
-    (λ t.
-    elim (List·Memᴰ·cases-cons (rw (t, addOrReduce) at m)) [
-      | inl here ↦ inl (List·Memᴰ·head here)
-      | inr later ↦ elim (in-added s g y later) [ inl old ↦ inl (List·Memᴰ·tail old) | inr new ↦ inr new ]
-    ])
 
 same-joins : (x y z : Arc) → x .tail ≡ y .tail → x .head ≡ y .head → joins x z ≡ joins y z
 unfolding joins

@@ -8,4 +8,5 @@ pub mod Room
 pub mod Promised
 pub mod Refused
 pub mod Enough
+pub mod Pools
 pub mod Laws

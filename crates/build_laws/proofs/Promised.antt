@@ -56,7 +56,7 @@ module _ (c : BuildCall) (ok : AcceptedBuild c) (small : (w : ℕ) → In w (c .
       )
 
   -- so an entry's number is never the mark
-  entries-few : (s : Side) → length (raws s (b .levels)) ≤ 1024 * 1024
+  pub entries-few : (s : Side) → length (raws s (b .levels)) ≤ 1024 * 1024
   unfolding raws
   entries-few s =
       le-trans

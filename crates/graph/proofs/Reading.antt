@@ -51,6 +51,10 @@ module _ {n pool : ℕ} {m : Memory} {w : List ℕ} {state : Pool} {g : List Arc
           omega (arith, place-below (here .placed) i (in-keep (ends-at m s v) i (here .ids) k .0), here .weights-room);
     }
 
+    pub read-places : reads-list .places ≡ keep (ends-at m s v) (here .ids)
+    unfolding keep reads-list
+    read-places = refl
+
   -- the places of an out list, from where the code reads its first
   pub outs-walk : (v : ℕ) → v < n → Walk (m .arcs) 3 (getD (m .nodes) (4 * v) 0) (keep (ends-at m 0 v) (here .ids))
   outs-walk v inside = rw (add-zero (4 * v)) at (own-walk 0 v (omega arith) inside)

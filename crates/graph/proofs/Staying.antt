@@ -1,5 +1,5 @@
 -- Whoever walks along a node's list may go on after an arc was added or reduced that does not end there: the list is at the same
--- places, in the same order.
+-- places, in the same order, and holds the same arcs.
 use mathlib.Core.Path.{_≡_, refl, sym, ap, _∙_}
 use mathlib.Core.Bool.{Bool, true, false}
 use mathlib.Core.List.{List, [], _∷_, _++_, map, cons-eq-cons}
@@ -7,14 +7,16 @@ use Prim.Native.Nat.{ℕ, zero, suc, _<_}
 use native.Mathlib.Omega.{arith}
 use lib.Dec.{eqb, leb}
 use lib.ListN.{length}
+use borrow.Author.Tests.{ne-eqb}
 use Rattle.rules.specs.Lists.{keep}
-use Rattle.rules.specs.Graph.{Arc, leaves, enters, joins, reduce, addOrReduce}
+use Rattle.rules.specs.Graph.{Arc, leaves, enters, outs, ins, joins, reduce, addOrReduce}
 use Rattle.rules.proofs.Cases.{on-test}
 use Rattle.rules.proofs.Arcs.{joined-ends}
 use Rattle.rules.proofs.Lists.{keep-same}
 use Rattle.lists.specs.Memory.{Memory, arc-at, ends-at, touches}
 use Rattle.graph.specs.declared.preparation_graph.Pool.{Pool}
-use Rattle.graph.specs.Stands.{Stands, Extends}
+use Rattle.graph.specs.Stands.{Stands, Extends, Unmoved}
+use Rattle.graph.proofs.Places.{on-sides}
 use Rattle.graph.proofs.Reading.{touched}
 
 -- keeping by what is at a place, before and after
@@ -77,3 +79,51 @@ places-stay {m = m} {m′} {w} {w′} a x y s v two off =
     kept-after (touches s v) (arc-at m w) (arc-at m′ w′) (y .more) a off (λ b j. joined-touches s v a b off j) (x .ids)
     (sym (ap (map (arc-at m′ w′)) (y .same-places)) ∙ sym (y .stands .arcs) ∙ ap (addOrReduce a) (x .arcs)) ∙
     keep-same (λ i. touches s v (arc-at m w i)) (ends-at m s v) (x .ids) (λ i _. touched m w v i s two)
+
+-- the arcs themselves: a graph's lists, whatever slices hold it
+pub arcs-stay : (a : Arc) (g : List Arc) (s v : ℕ) → touches s v a ≡ false → keep (touches s v) (addOrReduce a g) ≡ keep (touches s v) g
+unfolding keep addOrReduce
+arcs-stay a [] s v off = rw (off, keep)
+arcs-stay a (b ∷ g) s v off =
+    on-test (joins a b)
+    (λ t. let blind = joined-touches s v a b off t in rw (t, addOrReduce, blind .1, blind .0, keep))
+    (λ t.
+    let rest = arcs-stay a g s v off in
+    rw (t, addOrReduce)
+    (on-test (touches s v b)
+    (λ u. rw (u, keep) (ap (λ k. b ∷ k) rest))
+    (λ u. rw (u, keep) rest)))
+
+pub outs-stay : (a : Arc) (g : List Arc) (v : ℕ) → (a .tail ≡ v → ⊥) → outs (addOrReduce a g) v ≡ outs g v
+unfolding outs touches leaves
+outs-stay a g v off = arcs-stay a g 0 v (ne-eqb (a .tail) v off)
+
+pub ins-stay : (a : Arc) (g : List Arc) (v : ℕ) → (a .head ≡ v → ⊥) → ins (addOrReduce a g) v ≡ ins g v
+unfolding ins touches enters
+ins-stay a g v off = arcs-stay a g 1 v (ne-eqb (a .head) v off)
+
+-- no end of a is v
+off-sides : (a : Arc) (v : ℕ) → (a .tail ≡ v → ⊥) → (a .head ≡ v → ⊥) → (s : ℕ) → s < 2 → touches s v a ≡ false
+unfolding touches leaves enters
+off-sides a v p q = on-sides (λ s. touches s v a ≡ false) (ne-eqb (a .tail) v p) (ne-eqb (a .head) v q)
+
+pub added-unmoved : {n pool : ℕ} {m m′ : Memory} {w w′ : List ℕ} {state state′ : Pool} {g : List Arc} (a : Arc) (v : ℕ)
+    (x : Stands n pool m w state g) (y : Extends n pool m′ w′ state′ (addOrReduce a g) (x .ids)) → (a .tail ≡ v → ⊥) → (a .head ≡ v → ⊥) →
+    Unmoved v x (y .stands)
+added-unmoved {g = g} a v x y p q =
+    record {
+      places = λ s two. places-stay a x y s v two (off-sides a v p q s two);
+      arcs = λ s two. arcs-stay a g s v (off-sides a v p q s two);
+    }
+
+pub unmoved-refl : {n pool : ℕ} {m : Memory} {w : List ℕ} {state : Pool} {g : List Arc} (v : ℕ) (x : Stands n pool m w state g) → Unmoved v x x
+unmoved-refl v x = record { places = λ s two. refl; arcs = λ s two. refl }
+
+pub unmoved-trans : {n pool : ℕ} {m m′ m″ : Memory} {w w′ w″ : List ℕ} {state state′ state″ : Pool} {g g′ g″ : List Arc} {v : ℕ}
+    {x : Stands n pool m w state g} {y : Stands n pool m′ w′ state′ g′} {z : Stands n pool m″ w″ state″ g″} →
+    Unmoved v x y → Unmoved v y z → Unmoved v x z
+unmoved-trans p q =
+    record {
+      places = λ s two. q .places s two ∙ p .places s two;
+      arcs = λ s two. q .arcs s two ∙ p .arcs s two;
+    }

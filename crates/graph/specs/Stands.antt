@@ -8,7 +8,7 @@ use Rattle.rules.specs.Numbers.{invalid}
 use Rattle.rules.specs.Lists.{In, keep, distinct}
 use Rattle.rules.specs.Graph.{Arc}
 use Rattle.graph.specs.declared.preparation_graph.Pool.{Pool}
-use Rattle.lists.specs.Memory.{Memory, at, first, last, arc-at, ends-at, Chain, last-of}
+use Rattle.lists.specs.Memory.{Memory, at, first, last, arc-at, ends-at, touches, Chain, last-of}
 
 -- the list of v on side s is at these places
 pub record Listed (m : Memory) (s v : ℕ) (l : List ℕ) : Type 0 where
@@ -41,3 +41,9 @@ pub record Extends (n pool : ℕ) (m : Memory) (weights : List ℕ) (state : Poo
   pub stands : Stands n pool m weights state g
   pub more : List ℕ
   pub same-places : stands .ids ≡ places ++ more
+
+-- the lists of v are at the same places as before, in the same order, and hold the same arcs
+pub record Unmoved {n pool : ℕ} {m m′ : Memory} {w w′ : List ℕ} {state state′ : Pool} {g g′ : List Arc} (v : ℕ)
+    (x : Stands n pool m w state g) (y : Stands n pool m′ w′ state′ g′) : Type 0 where
+  pub places : (s : ℕ) → s < 2 → keep (ends-at m′ s v) (y .ids) ≡ keep (ends-at m s v) (x .ids)
+  pub arcs : (s : ℕ) → s < 2 → keep (touches s v) g′ ≡ keep (touches s v) g

@@ -1,13 +1,13 @@
 -- Lists laid end to end: where each begins, and what stands there.
 use mathlib.Core.Path.{_≡_, refl, sym, _∙_, ap}
 use mathlib.Core.Logic.{inl, inr}
-use mathlib.Core.List.{List, [], _∷_, _++_, map, append-assoc, List·Memᴰ·head, List·Memᴰ·tail, List·Memᴰ·cases-cons, List·Memᴰ·not-nil, Memᴰ·append-left, Memᴰ·append-right, List·Memᴰ·append-cases}
+use mathlib.Core.List.{List, [], _∷_, _++_, map, map-append, append-assoc, List·Memᴰ·head, List·Memᴰ·tail, List·Memᴰ·cases-cons, List·Memᴰ·not-nil, Memᴰ·append-left, Memᴰ·append-right, List·Memᴰ·append-cases}
 use Prim.Native.Nat.{ℕ, zero, suc, _+_, _-_, _*_, _≤_, _<_, zero-le}
 use native.Mathlib.Omega.{arith}
 use native.Mathlib.Decide.{ℕ-discrete, decLt}
 use native.Mathlib.Nat.{zero-add, add-assoc, mul-suc}
-use lib.ListN.{length, getD, drop, length-append, length-drop, List·getD-append}
-use lib.Seq.{getD-append-add}
+use lib.ListN.{length, getD, set, take, drop, length-append, length-drop, length-map, List·getD-append}
+use lib.Seq.{getD-append-add, drop-cons, set-at, take-append-seam, drop-append-seam, drop-drop}
 use Rattle.rules.specs.Lists.{In, flat-map, over, count-from, range}
 use Rattle.rules.specs.Build.{running-sums}
 
@@ -111,6 +111,30 @@ module _ {A : Type 0} where
   pub over-length : (lent values : List A) → length values ≤ length lent → length (over lent values) ≡ length lent
   unfolding over
   over-length lent values h = simp (length-append, length-drop) (omega arith)
+
+-- one value more
+pub over-next : (lent values : List ℕ) (k x : ℕ) → length values ≡ k → k < length lent →
+    set (over lent values) k x ≡ over lent (values ++ x ∷ [])
+unfolding over
+over-next lent values k x e h =
+    ap (λ l. set (values ++ l) k x) (ap (λ j. drop j lent) e ∙ drop-cons lent k 0 h) ∙ set-at values (getD lent k 0) (drop (suc k) lent) x k e ∙
+    sym (append-assoc values (x ∷ []) (drop (suc k) lent)) ∙
+    ap (λ j. (values ++ x ∷ []) ++ drop j lent) longer
+  where
+    longer : suc k ≡ length (values ++ x ∷ [])
+    longer = omega (arith, length-append values (x ∷ []))
+
+-- of a column of things
+pub column-next : {A : Type 0} (lent now : List ℕ) (part : A → ℕ) (found : List A) (f : A) (k x : ℕ) → now ≡ over lent (map part found) → x ≡ part f →
+    length found ≡ k → k < length lent → set now k x ≡ over lent (map part (found ++ f ∷ []))
+column-next lent now part found f k x now-is x-is e h =
+    rw (now-is, x-is, map-append part found (f ∷ [])) (over-next lent (map part found) k (part f) (length-map found part ∙ e) h)
+
+-- values written onward from where others end
+pub over-onward : {A : Type 0} (lent old more : List A) (at : ℕ) → at ≡ length old →
+    take at (over lent old) ++ over (drop at (over lent old)) more ≡ over lent (old ++ more)
+unfolding over
+over-onward lent old more at e = rw (e, take-append-seam, drop-append-seam old (drop (length old) lent), drop-drop, length-append, append-assoc)
 
 pub map-at : {A B : Type 0} (f : A → B) (xs : List A) (k : ℕ) (a : A) (b : B) → k < length xs → getD (map f xs) k b ≡ f (getD xs k a)
 map-at f [] k a b h = absurd (omega arith)

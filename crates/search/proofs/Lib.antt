@@ -1,4 +1,4 @@
--- What the proofs share, and what a caller may cite: `Laws` first.
+-- What the proofs share, and what a caller may cite: `Laws` and `Walks` first.
 pub mod Labels
 pub mod Turns
 pub mod Crossing
@@ -9,3 +9,4 @@ pub mod Takes
 pub mod Runs
 pub mod Answers
 pub mod Laws
+pub mod Walks

@@ -16,7 +16,7 @@ use Rattle.search.specs.declared.witness_search.Found.{Found}
 use Rattle.search.specs.declared.witness_search.Progress.{Progress}
 use Rattle.search.specs.Labels.{Stamped, Reached}
 use Rattle.search.specs.Turns.{cross, take, turn}
-use Rattle.search.specs.Searching.{Searching, World, Standing, Lent, with-slices, Ready}
+use Rattle.search.specs.Searching.{mostSum, Searching, World, Standing, Lent, with-slices, Ready}
 
 abbrev pub Some : {A : Type 0} → (A → Search → Type 0) → Type 0
 Some {A} P = (a : A) × (s : Search) × P a s
@@ -60,7 +60,7 @@ pub record Relaxing (arcs weights labels heap : List ℕ) (base len place weight
   pub chain : Chain (λ i. getD arcs (6 * i + 3) 0) place (r .places)
   pub usable : (i : ℕ) → In i (r .places) → Usable (r .n) arcs weights i
   pub short : length (r .places) ≤ length weights
-  pub light : weight ≤ maxWeight
+  pub light : weight ≤ mostSum
   pub room : 2 * (len + length (r .places)) ≤ length heap
   pub searching : Searching (r .n) labels heap base len s
 
@@ -78,7 +78,7 @@ pub record Settling (m : Lent) (base len v weight : ℕ) (w : World) (s : Search
   pub standing : Standing w (m .arcs) (m .weights) (m .nodes)
   pub searching : Searching (w .n) (m .labels) (m .heap) base len s
   pub node : Reached (w .n) (m .labels) base v
-  pub light : weight ≤ maxWeight
+  pub light : weight ≤ mostSum
   pub room : 2 * (len + length (outs (w .graph) v)) ≤ length (m .heap)
 
 abbrev pub Settled : (m : Lent) (base len avoid v weight : ℕ) → World → Search → Type 0
@@ -93,7 +93,7 @@ Settles m labels heap base avoid len len′ v weight =
 pub record Asked (m : Lent) (base len count target sum : ℕ) (w : World) (s : Search) : Type 0 where
   pub ready : Ready w m base len count s
   pub inside : target < w .n
-  pub small : sum ≤ maxWeight
+  pub small : sum ≤ mostSum
 
 -- the first entry may leave
 pub record Taking (m : Lent) (base len count target sum : ℕ) (w : World) (s : Search) : Type 0 where

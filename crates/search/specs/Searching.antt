@@ -1,7 +1,7 @@
 -- How the slices stand for a search.
 use mathlib.Core.List.{List}
 use mathlib.Core.Path.{_≡_}
-use Prim.Native.Nat.{ℕ, _+_, _*_, _≤_}
+use Prim.Native.Nat.{ℕ, _+_, _*_, _^_, _<_, _≤_}
 use lib.ListN.{length}
 use Rattle.rules.specs.Numbers.{maxWeight}
 use Rattle.rules.specs.Lists.{In}
@@ -13,7 +13,11 @@ use Rattle.heap.specs.Promises.{Holds}
 use Rattle.graph.specs.declared.preparation_graph.Pool.{Pool}
 use Rattle.lists.specs.Memory.{memory}
 use Rattle.graph.specs.Stands.{Stands}
-use Rattle.search.specs.Labels.{Labelled, Reached}
+use Rattle.search.specs.Labels.{Stamped, Labelled, Reached}
+
+-- what a search may be asked with: the weights of two arcs
+abbrev pub mostSum : ℕ
+mostSum = 2 * maxWeight
 
 -- labels and heap hold the search s; it has no word of the graph
 pub record Searching (n : ℕ) (labels heap : List ℕ) (base len : ℕ) (s : Search) : Type 0 where
@@ -28,7 +32,10 @@ pub record World : Type 0 where
   pub state : Pool
   pub graph : List Arc
 
--- the slices hold it, and no arc is heavier than a sum may be
+abbrev pub world : ℕ → ℕ → Pool → List Arc → World
+world n pool state g = record { n = n; pool = pool; state = state; graph = g }
+
+-- the slices hold it, and no arc is heavier than a pair's sum may be
 pub record Standing (w : World) (arcs weights nodes : List ℕ) : Type 0 where
   pub stands : Stands (w .n) (w .pool) (memory arcs nodes) weights (w .state) (w .graph)
   pub light : (a : Arc) → In a (w .graph) → a .weight ≤ maxWeight
@@ -55,3 +62,21 @@ pub record Ready (w : World) (m : Lent) (base len count : ℕ) (s : Search) : Ty
   pub counted : s .count ≡ count
   pub paid : Paid (w .graph) s
   pub room : 2 * (w .pool + 1) ≤ length (m .heap)
+
+-- between two searches
+pub record Resting (w : World) (arcs weights nodes labels : List ℕ) (heap base : ℕ) : Type 0 where
+  pub standing : Standing w arcs weights nodes
+  pub stamped : Stamped (w .n) labels base
+  pub heap-room : 2 * (w .pool + 1) ≤ heap
+
+-- the next may begin
+pub record Startable (w : World) (arcs weights nodes labels : List ℕ) (heap base start : ℕ) : Type 0 where
+  pub resting : Resting w arcs weights nodes labels heap base
+  pub inside : start < w .n
+  pub fits : base + 3 < 2 ^ 64
+
+-- one for each in-arc of v may begin: there are stamps for them
+pub record Entering (w : World) (arcs weights nodes labels : List ℕ) (heap base v : ℕ) : Type 0 where
+  pub resting : Resting w arcs weights nodes labels heap base
+  pub node : v < w .n
+  pub fits : base + 2 * w .pool + 3 < 2 ^ 64

@@ -1,8 +1,8 @@
 -- The preparation graph's arcs as edges; adding or reducing makes no pair of ends heavier.
 use mathlib.Core.Path.{_≡_, refl, sym, _∙_, ap}
-use mathlib.Core.Logic.{inl, inr}
+use mathlib.Core.Logic.{_⊎_, inl, inr}
 use mathlib.Core.Bool.{true, not, _||_, or-true, false≢true}
-use mathlib.Core.List.{List, [], _∷_, List·Memᴰ·head, List·Memᴰ·tail, List·Memᴰ·cases-cons, List·Memᴰ·not-nil}
+use mathlib.Core.List.{List, [], _∷_, List·Memᴰ·head, List·Memᴰ·tail, List·Memᴰ·cases-cons, List·Memᴰ·not-nil, List·Memᴰ·eq-of-singleton}
 use Prim.Native.Nat.{ℕ, _≤_}
 use native.Mathlib.Omega.{arith}
 use lib.Dec.{leb}
@@ -74,6 +74,26 @@ added-within s (a ∷ g) =
     (λ t.
     rw (t, addOrReduce)
     (let f = added-within s g in (f .0, (f .1 .0, List·Memᴰ·tail (f .1 .1)), f .2)))
+
+-- what an arc of the graph afterwards is: an old one, a reduced one, or the new one
+pub in-added : (s : Arc) (g : List Arc) (y : Arc) → In y (addOrReduce s g) → In y g ⊎ (y ≡ s)
+unfolding addOrReduce reduce
+in-added s [] y m = inr (List·Memᴰ·eq-of-singleton m)
+in-added s (x ∷ g) y m =
+    on-test (joins s x)
+    (λ t.
+    elim (List·Memᴰ·cases-cons (rw (t, addOrReduce) at m)) [
+      | inl here ↦
+          on-test (leb (x .weight) (s .weight))
+          (λ u. inl (List·Memᴰ·head (rw (u, reduce) at here)))
+          (λ u. inr (rw (u, reduce) at here))
+      | inr later ↦ inl (List·Memᴰ·tail later)
+    ])
+    (λ t.
+    elim (List·Memᴰ·cases-cons (rw (t, addOrReduce) at m)) [
+      | inl here ↦ inl (List·Memᴰ·head here)
+      | inr later ↦ elim (in-added s g y later) [ inl old ↦ inl (List·Memᴰ·tail old) | inr new ↦ inr new ]
+    ])
 
 -- Without the arcs at a node.
 untouched : (v : ℕ) (x : Arc) → not (leaves v x || enters v x) ≡ true → (x .tail ≡ v → ⊥) × (x .head ≡ v → ⊥)

@@ -7,6 +7,7 @@ use native.Mathlib.Omega.{arith}
 use lib.ListN.{length, getD, set, drop, length-append, length-map, drop-of-length-le}
 use lib.Seq.{drop-cons, set-at}
 use Rattle.rules.specs.Lists.{over}
+use Rattle.rules.proofs.Prefixes.{column-next}
 use Rattle.rules.specs.Graph.{Arc}
 use Rattle.rules.specs.Search.{Search, Found, find-max-weight}
 use Rattle.search.specs.declared.witness_search.WitnessSearch.{WitnessSearch}
@@ -20,24 +21,6 @@ use Rattle.searches.specs.Answers.{Written}
 pub none-written : {answers counts : List ℕ} → Written answers counts answers counts []
 unfolding over
 none-written = record { answers-are = refl; counts-are = refl }
-
--- one value more
-over-next : (lent values : List ℕ) (k x : ℕ) → length values ≡ k → k < length lent →
-    set (over lent values) k x ≡ over lent (values ++ x ∷ [])
-unfolding over
-over-next lent values k x e h =
-    ap (λ l. set (values ++ l) k x) (ap (λ j. drop j lent) e ∙ drop-cons lent k 0 h) ∙ set-at values (getD lent k 0) (drop (suc k) lent) x k e ∙
-    sym (append-assoc values (x ∷ []) (drop (suc k) lent)) ∙
-    ap (λ j. (values ++ x ∷ []) ++ drop j lent) longer
-  where
-    longer : suc k ≡ length (values ++ x ∷ [])
-    longer = omega (arith, length-append values (x ∷ []))
-
--- of one column
-column-next : (lent now : List ℕ) (part : Found → ℕ) (found : List Found) (f : Found) (k x : ℕ) → now ≡ over lent (map part found) → x ≡ part f →
-    length found ≡ k → k < length lent → set now k x ≡ over lent (map part (found ++ f ∷ []))
-column-next lent now part found f k x now-is x-is e h =
-    rw (now-is, x-is, map-append part found (f ∷ [])) (over-next lent (map part found) k (part f) (length-map found part ∙ e) h)
 
 -- the next target and sum
 each-next : (g : List Arc) (avoid limit : ℕ) (ts xs : List ℕ) (k : ℕ) (s : Search) → k < length ts → length xs ≡ length ts →
@@ -65,7 +48,7 @@ module _ {m : Lent} {x₀ x : WitnessSearch} {limit k : ℕ} {targets sums answe
     (y : SoFar m x₀ x limit k targets sums answers counts answers′ counts′ w s) where
   module _ (asks : Askable (w .n) targets sums (length answers) (length counts)) (h : k < length targets) where
     pub next-asked : Asked m (x .base) (x .len) (x .settled) (getD targets k 0) (getD sums k 0) w (y .search)
-    next-asked = record { ready = y .ready; inside = asks .inside k h; small = asks .small k h }
+    next-asked = record { ready = y .ready; inside = asks .inside k h; small = omega (arith, asks .small k h) }
 
     pub one-more : {m′ : Lent} (r : Answer) → Answered m′ x (getD targets k 0) (getD sums k 0) limit r w (y .search) →
         SoFar m′ x₀ (r .search) limit (k + 1) targets sums answers counts (set answers′ k (r .weight)) (set counts′ k (r .search .settled)) w s

@@ -2,5 +2,4 @@
 pub mod Links
 pub mod Answers
 pub mod Rounds
-pub mod Walks
 pub mod Pairs

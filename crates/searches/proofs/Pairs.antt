@@ -17,15 +17,15 @@ use Rattle.lists.specs.Walks.{column}
 use Rattle.lists.proofs.Walks.{reads-end, tail-at}
 use Rattle.search.specs.declared.witness_search.WitnessSearch.{WitnessSearch}
 use Rattle.search.specs.declared.witness_search.Found.{Found as Answer}
-use Rattle.search.specs.Searching.{World, Lent, lent, Ready}
+use Rattle.search.specs.Searching.{World, Lent, lent, Ready, Resting, Entering}
 use Rattle.search.specs.Promises.{Answered, Starts}
-use Rattle.search.proofs.Laws.{ready-stamped}
+use Rattle.search.proofs.Laws.{ready-stamped, still, starting, started}
 use Rattle.searches.specs.declared.Run.{Run}
 use Rattle.searches.specs.Asks.{Tally, tally, add-in, ask-pair, out-pair, from-tail, in-pairs, node-pairs, all-pairs}
 use Rattle.searches.specs.Fits.{mostLinks}
-use Rattle.searches.specs.Rounds.{Resting, Ground, Pairing, Went, Pairs, Leaving, Leaves, Rested, Coming, Comes, Entering, Enters}
-use Rattle.searches.proofs.Rounds.{still, starting, started, graph-there}
-use Rattle.searches.proofs.Walks.{Left, left-outs, left-ins, few-ins, left-fit, left-rest}
+use Rattle.searches.specs.Rounds.{Ground, Pairing, Went, Pairs, Leaving, Leaves, Rested, Coming, Comes, Enters}
+use Rattle.searches.proofs.Rounds.{graph-there}
+use Rattle.search.proofs.Walks.{Left, left-outs, left-ins, few-ins, left-fit, left-rest}
 
 -- One pair.
 module _ (g : List Arc) (limit avoid tail head sum : ℕ) (t : Tally) where

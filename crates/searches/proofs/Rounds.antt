@@ -1,4 +1,4 @@
--- From one search to the next, and what is promised where there is none.
+-- What is promised where no search begins, and from what one may.
 use mathlib.Core.Bool.{false, false≢true}
 use mathlib.Core.Path.{_≡_, sym, _∙_}
 use mathlib.Core.List.{List}
@@ -7,33 +7,13 @@ use native.Mathlib.Omega.{arith}
 use lib.ListN.{length}
 use Rattle.rules.specs.Build.{graph-of}
 use Rattle.rules.specs.Columns.{Links}
-use Rattle.rules.specs.Search.{init}
-use Rattle.search.specs.declared.witness_search.WitnessSearch.{WitnessSearch}
-use Rattle.search.specs.Labels.{Stamped}
-use Rattle.search.specs.Searching.{World, lent, Ready}
-use Rattle.search.specs.Promises.{Starting, Started}
-use Rattle.search.proofs.Laws.{started-ready}
+use Rattle.search.specs.Searching.{World, world}
 use Rattle.searches.specs.declared.Begun.{Begun}
 use Rattle.searches.specs.Fits.{Askable, Fitting, Searchable}
 use Rattle.searches.specs.Answers.{Searches}
-use Rattle.searches.specs.Rounds.{Resting, Startable, AskingFrom, world, Ground, Begins}
+use Rattle.searches.specs.Rounds.{AskingFrom, Ground, Begins}
 use Rattle.rules.proofs.Decides.{refuses, no}
 use Rattle.searches.proofs.Answers.{none-written}
-
--- the next search may begin, and then it goes
-module _ {w : World} {arcs weights nodes labels : List ℕ} {base : ℕ} where
-  pub still : {heap heap′ base′ : ℕ} {labels′ : List ℕ} → Resting w arcs weights nodes labels heap base → heap′ ≡ heap → Stamped (w .n) labels′ base′ →
-      Resting w arcs weights nodes labels′ heap′ base′
-  still x e s = record { standing = x .standing; stamped = s; heap-room = omega (arith, e, x .heap-room) }
-
-  pub starting : {heap : List ℕ} {start : ℕ} → Startable w arcs weights nodes labels (length heap) base start → Starting labels heap base start (w .n)
-  starting x = record { stamped = x .resting .stamped; inside = x .inside; heap-room = omega (arith, x .resting .heap-room); fits = x .fits }
-
-  pub started : {labels′ heap′ : List ℕ} {heap start avoid : ℕ} (r : WitnessSearch) → Resting w arcs weights nodes labels heap base →
-      Started labels′ heap′ base start avoid r (w .n) → length heap′ ≡ heap →
-      Ready w (lent arcs weights nodes labels′ heap′) (r .base) (r .len) (r .settled) (init start)
-  started {labels′} {heap′} r x s e =
-      started-ready {w = w} {m = lent arcs weights nodes labels′ heap′} r s (x .standing) (omega (arith, x .heap-room, e))
 
 -- what `begin` promises where it refuses
 pub not-begun : {n : ℕ} {l : Links} {arcs weights nodes labels arcs′ weights′ nodes′ labels′ : List ℕ} {heap : ℕ} (r : Begun) → r .ok ≡ false →

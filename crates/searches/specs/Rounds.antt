@@ -14,7 +14,7 @@ use Rattle.rules.specs.Lists.{Decides}
 use Rattle.graph.specs.declared.preparation_graph.Pool.{Pool}
 use Rattle.search.specs.declared.witness_search.WitnessSearch.{WitnessSearch}
 use Rattle.search.specs.Labels.{Stamped}
-use Rattle.search.specs.Searching.{World, Standing, Lent, Ready}
+use Rattle.search.specs.Searching.{World, world, Lent, Ready, Resting, Startable, Entering}
 use Rattle.search.specs.Promises.{Each}
 use Rattle.searches.specs.declared.Begun.{Begun}
 use Rattle.searches.specs.declared.Run.{Run}
@@ -32,18 +32,7 @@ AsksAll m x limit targets sums answers counts answers′ counts′ =
     Each (Asking m x targets sums (length answers) (length counts))
     (λ w s. Written answers counts answers′ counts′ (ask-each (w .graph) (x .avoid) limit targets sums s))
 
--- between two searches
-pub record Resting (w : World) (arcs weights nodes labels : List ℕ) (heap base : ℕ) : Type 0 where
-  pub standing : Standing w arcs weights nodes
-  pub stamped : Stamped (w .n) labels base
-  pub heap-room : 2 * (w .pool + 1) ≤ heap
-
--- the next may begin
-pub record Startable (w : World) (arcs weights nodes labels : List ℕ) (heap base start : ℕ) : Type 0 where
-  pub resting : Resting w arcs weights nodes labels heap base
-  pub inside : start < w .n
-  pub fits : base + 3 < 2 ^ 64
-
+-- a search of its own for them
 pub record AskingFrom (w : World) (arcs weights nodes labels : List ℕ) (heap base start : ℕ) (targets sums : List ℕ) (answers counts : ℕ) : Type 0 where
   pub startable : Startable w arcs weights nodes labels heap base start
   pub asks : Askable (w .n) targets sums answers counts
@@ -52,9 +41,6 @@ abbrev pub AsksFrom : (arcs weights nodes labels : List ℕ) (heap base start av
 AsksFrom arcs weights nodes labels heap base start avoid limit targets sums answers counts answers′ counts′ =
     (w : World) → AskingFrom w arcs weights nodes labels heap base start targets sums (length answers) (length counts) →
     Written answers counts answers′ counts′ (ask-each (w .graph) avoid limit targets sums (init start))
-
-abbrev pub world : ℕ → ℕ → Pool → List Arc → World
-world n pool state g = record { n = n; pool = pool; state = state; graph = g }
 
 -- the slices hold the graph of the links, no label is of a search yet, and there are stamps for every search that the links can ask for
 pub record Ground (n : ℕ) (l : Links) (arcs weights nodes labels : List ℕ) (heap base : ℕ) : Type 0 where
@@ -118,12 +104,7 @@ Comes arcs weights nodes labels labels′ heap x v tail weight limit r =
     (w : World) → Coming w arcs weights nodes labels heap (x .search .base) v tail weight →
     Rested (w .n) labels′ (x .search .base) 1 (from-tail (w .graph) limit v tail weight (x .total)) r
 
--- and all of them, for which there are stamps
-pub record Entering (w : World) (arcs weights nodes labels : List ℕ) (heap base v : ℕ) : Type 0 where
-  pub resting : Resting w arcs weights nodes labels heap base
-  pub node : v < w .n
-  pub fits : base + 2 * w .pool + 3 < 2 ^ 64
-
+-- and all of them
 abbrev pub Enters : (arcs weights nodes labels labels′ : List ℕ) (heap : ℕ) → Run → (v limit : ℕ) → Run → Type 0
 Enters arcs weights nodes labels labels′ heap x v limit r =
     (w : World) → Entering w arcs weights nodes labels heap (x .search .base) v →

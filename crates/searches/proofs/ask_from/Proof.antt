@@ -1,6 +1,6 @@
 -- The ground is what a search starts on, and the start is what its targets are asked of.
 use borrow.Author.Needs.{needs}
-use Rattle.searches.proofs.Rounds.{starting, started}
+use Rattle.search.proofs.Laws.{starting, started}
 use Rattle.searches.proofs.ask_from.Statement.{statement}
 use Rattle.searches.proofs.ask_from.Tie as tie
 

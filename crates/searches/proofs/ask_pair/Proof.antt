@@ -28,7 +28,7 @@ same-length-2 c = search needs
 returns-3 : tie.Need-returns-3
 returns-3 c =
     let asked = c .before .before .before .before .before .before .find-max-weight in
-    λ w s p. pair-asked (asked .result) (c .before .before .before .before .before .before .before .before .before .before .before .if1 .left) (c .before .before .before .before .before .before .before .before .before .before .if2 .left) (asked .ensures w s (record { ready = p .ready; inside = p .inside; small = c .before .before .before .before .before .before .before .before .before .before .if2 .left })) (c .count-in .ensures)
+    λ w s p. pair-asked (asked .result) (c .before .before .before .before .before .before .before .before .before .before .before .if1 .left) (c .before .before .before .before .before .before .before .before .before .before .if2 .left) (asked .ensures w s (record { ready = p .ready; inside = p .inside; small = omega (arith, c .before .before .before .before .before .before .before .before .before .before .if2 .left) })) (c .count-in .ensures)
 
 pub ask-pair-spec : {M : Type 1} → statement M
 ask-pair-spec =

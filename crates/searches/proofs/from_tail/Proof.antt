@@ -1,6 +1,6 @@
 -- One search begins and goes over all pairs; the next may follow.
 use borrow.Author.Needs.{needs}
-use Rattle.searches.proofs.Rounds.{starting}
+use Rattle.search.proofs.Laws.{starting}
 use Rattle.searches.proofs.Pairs.{sets-out, came}
 use Rattle.searches.proofs.from_tail.Statement.{statement}
 use Rattle.searches.proofs.from_tail.Tie as tie

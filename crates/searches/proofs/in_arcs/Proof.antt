@@ -4,9 +4,8 @@ use Prim.Native.Nat.{_+_, _*_, _≤_, _<_}
 use native.Mathlib.Omega.{arith}
 use lib.ListN.{length}
 use Rattle.lists.specs.Walks.{column, steps}
-use Rattle.search.specs.Searching.{World}
-use Rattle.searches.specs.Rounds.{Entering}
-use Rattle.searches.proofs.Walks.{left-room, left-nearer}
+use Rattle.search.specs.Searching.{World, Entering}
+use Rattle.search.proofs.Walks.{left-room, left-nearer}
 use Rattle.searches.proofs.Pairs.{InsLeft, ins-all, ins-coming, ins-on, ins-done}
 use Rattle.searches.proofs.in_arcs.Statement.{statement}
 use Rattle.searches.proofs.in_arcs.Tie as tie

@@ -7,7 +7,7 @@ use Rattle.lists.specs.Walks.{column, steps}
 use Rattle.search.specs.Searching.{lent}
 use Rattle.search.specs.Promises.{Each}
 use Rattle.searches.specs.Rounds.{Leaving}
-use Rattle.searches.proofs.Walks.{left-fit, left-room, left-nearer}
+use Rattle.search.proofs.Walks.{left-fit, left-room, left-nearer}
 use Rattle.searches.proofs.Pairs.{OutsLeft, outs-all, outs-pairing, outs-on, outs-done}
 use Rattle.searches.proofs.out_arcs.Statement.{statement}
 use Rattle.searches.proofs.out_arcs.Tie as tie

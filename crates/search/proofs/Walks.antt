@@ -4,18 +4,19 @@ use mathlib.Core.List.{List, _∷_, List·Memᴰ·head, List·Memᴰ·tail}
 use Prim.Native.Nat.{ℕ, _+_, _*_, _≤_, _<_}
 use native.Mathlib.Nat.{add-zero}
 use native.Mathlib.Omega.{arith}
-use lib.ListN.{length, getD}
+use lib.ListN.{length, getD, drop}
 use Rattle.rules.specs.Numbers.{invalid, maxWeight}
-use Rattle.rules.specs.Lists.{In}
+use Rattle.rules.specs.Lists.{In, keep}
 use Rattle.rules.specs.Graph.{Arc, leaves, enters, outs, ins}
 use Rattle.rules.proofs.Members.{in-keep, in-map}
-use Rattle.lists.specs.Memory.{memory, at, first, arc-at}
+use Rattle.lists.specs.Memory.{memory, at, first, arc-at, touches}
 use Rattle.lists.specs.Walks.{column, Reads, steps}
 use Rattle.rules.proofs.Lists.{keep-length}
 use Rattle.graph.proofs.Standing.{within-pool}
-use Rattle.lists.proofs.Walks.{reads-on, reads-room, reads-nearer}
+use Rattle.lists.proofs.Walks.{reads-on, reads-room, reads-nearer, in-drop}
 use Rattle.graph.proofs.Reading.{reads-outs, reads-ins}
+use Rattle.graph.proofs.Along.{Along, along-reads}
 use Rattle.search.specs.Searching.{World, Standing}
 
 pub record Fit (n : ℕ) (a : Arc) : Type 0 where
   pub tail : a .tail < n
@@ -51,6 +52,15 @@ module _ {w : World} {arcs weights nodes : List ℕ} (x : Standing w arcs weight
   unfolding ins
   left-ins v inside =
       record { reads = reads-ins (x .stands) v inside; each = λ a k. all-fit a (in-keep (enters v) a (w .graph) k .0) }
+
+  -- and from any place on the way
+  pub left-along : (s v : ℕ) {k place : ℕ} → s < 2 → v < w .n → Along (x .stands) s v k place →
+      Left (w .n) arcs weights nodes s place (drop k (keep (touches s v) (w .graph)))
+  left-along s v {k} two inside on-way =
+      record {
+        reads = along-reads (x .stands) s v two inside on-way;
+        each = λ a m. all-fit a (in-keep (touches s v) a (w .graph) (in-drop a k (keep (touches s v) (w .graph)) m) .0);
+      }
 
   pub few-ins : (v : ℕ) → length (ins (w .graph) v) ≤ w .pool
   unfolding ins

@@ -1,0 +1,4 @@
+-- What the proofs share.
+pub mod Laid
+pub mod Ranking
+pub mod Running

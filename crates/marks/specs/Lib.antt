@@ -1,0 +1,2 @@
+-- A hierarchy by its columns.
+pub mod Tables
