@@ -1,6 +1,6 @@
 -- Numbers that name each node once, as far as they have been looked at.
 use mathlib.Core.Bool.{Bool, true, false, _&&_, _||_, true≢false}
-use mathlib.Core.List.{List, [], _∷_, _++_, append-nil}
+use mathlib.Core.List.{List, [], _∷_, _++_, append-nil, List·Memᴰ·head, List·Memᴰ·tail}
 use mathlib.Core.Path.{_≡_, refl, sym, ap, _∙_}
 use Prim.Native.Nat.{ℕ, zero, suc, _+_, _≤_, _<_}
 use native.Mathlib.Numerals.{add-one}
@@ -10,7 +10,7 @@ use lib.Dec.{eqb, ltb}
 use lib.ListN.{length, getD, take, set, length-set}
 use lib.Seq.{take-suc, getD-take, length-take-le, getD-set-same, getD-set-other}
 use borrow.Author.Tests.{ltb-true, lt-ltb, eq-eqb, ne-eqb}
-use Rattle.rules.specs.Lists.{all, any, distinct}
+use Rattle.rules.specs.Lists.{Decides, In, all, any, distinct}
 use Rattle.rules.proofs.Cases.{on-test}
 use Rattle.rules.proofs.Decides.{and-both, both-and}
 use Rattle.rules.proofs.Members.{all-each, any-same, getD-in, in-getD, in-any}
@@ -108,3 +108,37 @@ module _ (n : ℕ) (xs : List ℕ) (few : n ≤ 1024) (enough : n ≤ length xs)
               | yes e ↦ rw (eq-eqb v here e, or-true, e) (getD-set-same seen here true false (omega (arith, s .long)))
               | no d ↦ rw (ne-eqb v here d, or-false) (getD-set-other seen here v true false d ∙ s .flags v low)
             ]
+
+-- What the test decides, number by number.
+each-all : (p : ℕ → Bool) (xs : List ℕ) → ((x : ℕ) → In x xs → p x ≡ true) → all p xs ≡ true
+unfolding all
+each-all p [] h = refl
+each-all p (x ∷ xs) h = rw (h x (List·Memᴰ·head refl), each-all p xs (λ y m. h y (List·Memᴰ·tail m)))
+
+pub once-decides : (n : ℕ) (xs : List ℕ) (d : ℕ) → n ≤ length xs →
+    Decides (each-once n (take n xs))
+    (((v : ℕ) → v < n → getD xs v d < n) × ((u v : ℕ) → u < n → v < n → getD xs u d ≡ getD xs v d → u ≡ v))
+unfolding each-once
+once-decides n xs d enough =
+    let long = length-take-le n xs enough in (
+      λ t.
+          let b = and-both (all (λ v. ltb v n) (take n xs)) (distinct (take n xs)) t in (
+            λ v below.
+                rw (getD-take n xs v d below) at
+                (ltb-true (getD (take n xs) v d) n
+                (all-each (λ v. ltb v n) (take n xs) (b .0) (getD (take n xs) v d) (getD-in (take n xs) v d (omega (arith, long))))),
+            λ u v hu hv same.
+                distinct-decides (take n xs) d .0 (b .1) u v (omega (arith, long)) (omega (arith, long))
+                (getD-take n xs u d hu ∙ same ∙ sym (getD-take n xs v d hv)),
+          ),
+      λ f.
+          both-and _ _
+          (each-all (λ v. ltb v n) (take n xs)
+          (λ x m.
+          let w = in-getD x (take n xs) d m in
+          lt-ltb x n (rw (w .2) at (rw (← getD-take n xs (w .0) d (omega (arith, w .1, long))) at (f .0 (w .0) (omega (arith, w .1, long)))))))
+          (distinct-decides (take n xs) d .1
+          (λ i j hi hj same.
+          f .1 i j (omega (arith, long)) (omega (arith, long))
+          (sym (getD-take n xs i d (omega (arith, long))) ∙ same ∙ getD-take n xs j d (omega (arith, long))))),
+    )
