@@ -22,8 +22,8 @@ use Rattle.rules.proofs.Cases.{on-test}
 use Rattle.rules.proofs.Members.{getD-in, in-getD, in-map, map-in}
 use Rattle.rules.proofs.Positions.{position-below, position-passes, position-first, position-is, same-position}
 use Rattle.rules.proofs.Prefixes.{prefix, prefix-next, prefix-most, sums-at, sums-length, sizes, flat-length, flat-at, in-flat, flat-in, over-at, over-length, map-at, range-length, range-at}
-use Rattle.rules.proofs.Accepted.{AcceptedBuild}
 use Rattle.rules.proofs.Ranks.{level-size, same-sizes}
+use Rattle.rules.specs.Accepted.{AcceptedBuild}
 use Rattle.build_laws.proofs.Levels.{rank-of, Opened, LevelOk, own-end, apart-same}
 use Rattle.build_laws.proofs.Starts.{Contracted, ranked}
 

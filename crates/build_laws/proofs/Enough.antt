@@ -19,9 +19,9 @@ use Rattle.rules.proofs.Members.{in-map}
 use Rattle.rules.proofs.Positions.{same-position}
 use Rattle.rules.proofs.Pigeonhole.{at-most}
 use Rattle.rules.proofs.Prefixes.{flat-map-append}
-use Rattle.rules.proofs.Accepted.{AcceptedBuild}
 use Rattle.rules.proofs.Ranks.{level-of, with-level, level-size}
 use Rattle.rules.proofs.Numbers.{went-only, pool-leaf, tables-leaf}
+use Rattle.rules.specs.Accepted.{AcceptedBuild}
 use Rattle.build_laws.proofs.Levels.{rank-of, LevelOk, level-ok}
 use Rattle.build_laws.proofs.Runs.{RunOk, next-rank, next-inside}
 use Rattle.build_laws.proofs.Room.{codes-distinct, live-most}

@@ -16,7 +16,8 @@ use Rattle.rules.specs.Build.{arcs-of, neighbour-of, raw, Building, finish-cont
 use Rattle.rules.proofs.TablesDecided.{tables-decided}
 use Rattle.rules.proofs.Members.{getD-in}
 use Rattle.rules.proofs.Prefixes.{map-at, range-length, range-at}
-use Rattle.rules.proofs.Accepted.{AcceptedBuild, accepted-build}
+use Rattle.rules.proofs.Accepted.{accepted-build}
+use Rattle.rules.specs.Accepted.{AcceptedBuild}
 use Rattle.walks.specs.Agreement.{cut}
 use Rattle.walks.proofs.Cut.{cut-rules}
 use Rattle.build_laws.proofs.Starts.{Contracted, ranked, contraction-went}

@@ -19,8 +19,8 @@ use Rattle.rules.specs.Unpack.{is-shortcut}
 use Rattle.rules.proofs.Members.{in-map}
 use Rattle.rules.proofs.Pigeonhole.{at-most}
 use Rattle.rules.proofs.Prefixes.{prefix, sizes, locate, flat-length, flat-at-most, range-in}
-use Rattle.rules.proofs.Accepted.{AcceptedBuild}
 use Rattle.rules.proofs.Ranks.{level-size}
+use Rattle.rules.specs.Accepted.{AcceptedBuild}
 use Rattle.walks.specs.Walks.{Linked}
 use Rattle.walks.specs.Promise.{Entries, Promise}
 use Rattle.walks.proofs.Paths.{Lighter, lighter-path}

@@ -15,10 +15,11 @@ use Rattle.rules.specs.Search.{init, find-max-weight}
 use Rattle.rules.specs.Build.{went, refused, in-pool, from-links, Contracting, shortcut, add, unless-witness, ask, within-sum, pair, pairs-of, handle-shortcuts, contract-node, Level, in-tables, Building, rank-step, rank-steps, contraction, finish-contraction, build}
 use Rattle.rules.specs.Lists.{In}
 use Rattle.rules.proofs.Cases.{on-test}
-use Rattle.rules.proofs.Accepted.{AcceptedBuild, accepted-build}
+use Rattle.rules.proofs.Accepted.{accepted-build}
 use Rattle.rules.proofs.Ranks.{Stepped, rank-stepped, with-level}
 use Rattle.rules.proofs.Numbers.{Only, went-only, refused-only, then-only}
 use Rattle.rules.proofs.Outcomes.{early, late, whole, ended}
+use Rattle.rules.specs.Accepted.{AcceptedBuild}
 use Rattle.walks.specs.Promise.{Promise}
 use Rattle.build_laws.proofs.Contraction.{Adds, pair-keeps, pairs-of-keeps, pool-held}
 use Rattle.build_laws.proofs.Levels.{rank-of, GraphOk, before, adds}

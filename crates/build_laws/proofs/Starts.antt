@@ -21,9 +21,9 @@ use Rattle.rules.proofs.Steps.{both-went}
 use Rattle.rules.proofs.Members.{in-map, map-in, weight-in}
 use Rattle.rules.proofs.Positions.{position-below}
 use Rattle.rules.proofs.Pigeonhole.{every-below}
-use Rattle.rules.proofs.Accepted.{AcceptedBuild}
 use Rattle.rules.proofs.Ascending.{Before, ascending-before}
 use Rattle.rules.proofs.Ranks.{Fit, levels-fit}
+use Rattle.rules.specs.Accepted.{AcceptedBuild}
 use Rattle.walks.specs.Paths.{Path}
 use Rattle.walks.specs.Walks.{Linked}
 use Rattle.walks.proofs.Paths.{Lighter, lighter-path}

@@ -1,9 +1,9 @@
 -- The number of the check, from the parts of the table rules.
-use mathlib.Core.Bool.{true, false, not}
+use mathlib.Core.Bool.{true}
 use mathlib.Core.List.{List}
-use mathlib.Core.Path.{_≡_, refl, sym}
-use Prim.Native.Nat.{ℕ, _≤_, _<_}
-use lib.ListN.{length, getD, take}
+use mathlib.Core.Path.{_≡_}
+use Prim.Native.Nat.{ℕ, _≤_}
+use lib.ListN.{length, take}
 use Rattle.rules.specs.Numbers.{maxNodes, invalid}
 use Rattle.rules.specs.Columns.{Table, Hierarchy, Side, forward, backward, table, rank}
 use Rattle.rules.specs.TableRules.{SideRules, TableRules, table-test}
@@ -12,7 +12,6 @@ use Rattle.rules.proofs.Cases.{on-test}
 use Rattle.rules.proofs.TablesDecided.{tables-decided}
 use Rattle.permutation.specs.Once.{each-once}
 use Rattle.permutation.proofs.Once.{once-decides}
-use Rattle.tables.specs.Lent.{lent}
 use Rattle.tables.specs.Shapes.{Shape, Shaped, EntriesRules}
 
 -- the same columns, seen from the other side

@@ -11,7 +11,7 @@ use lib.ListN.{length, getD, List·getD-eq-default}
 use Rattle.rules.specs.Numbers.{maxWeight, invalid, noWeight}
 use Rattle.rules.specs.Lists.{Decides}
 use Rattle.rules.specs.Columns.{Table, Entry, Hierarchy, Side, forward, backward, table, entry, rank, begin, room}
-use Rattle.rules.specs.TableRules.{used, tail-of, head-of, Fitting, Opens, EntryRules}
+use Rattle.rules.specs.TableRules.{used, tail-of, head-of, Opens, EntryRules}
 use Rattle.rules.proofs.Decides.{decides-as, denied}
 use Rattle.tables.specs.Lent.{lent, side, either, sided}
 use Rattle.tables.specs.Shapes.{Shape, Shaped, Readable, Opening, numbers, RankRules, RanksRules, EntriesRules}
