@@ -307,12 +307,12 @@ fn tiny() {
 
 /// A fault in what is handed in or lent, or none that matters.
 fn damage(numbers: &mut Rng, call: &mut Call) {
-    let n = call.links.n;
+    let n = call.links.n.min(2000);
     match below(numbers, 12) {
         0 => call.order.truncate(below(numbers, n + 1)),
         1 => call.order.push(below(numbers, n + 1) as u32),
-        2 if n > 0 => {
-            let (k, node) = (below(numbers, n), below(numbers, n + 2) as u32);
+        2 if !call.order.is_empty() => {
+            let (k, node) = (below(numbers, call.order.len()), below(numbers, n + 2) as u32);
             call.order[k] = node
         }
         3 => call.lent.ranks = below(numbers, n + 2),
