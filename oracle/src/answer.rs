@@ -11,7 +11,7 @@ use crate::path_calculator::PathCalculator;
 use crate::preparation_graph::PreparationGraph;
 use crate::room::{contract_within, Room};
 use crate::shortest_path::ShortestPath;
-use crate::tables::{equally_long, is_permutation, longest_opening, read};
+use crate::tables::{equally_long, is_permutation, longest_opening, Tables};
 use crate::witness_search::WitnessSearch;
 
 /// The crate unpacks a walk before anything is known of its length; tables that open into more links
@@ -21,7 +21,7 @@ const MOST_OPENED: u64 = 1 << 20;
 pub fn answer(case: &mut Json, with_peak: bool) {
     match case.get("kind").word() {
         "build" => build(case, with_peak),
-        "check" => case.set("number", Json::Number(if read(case).is_some() { 0 } else { 20 })),
+        "check" => case.set("number", Json::Number(if Tables::of(case).read().is_some() { 0 } else { 20 })),
         "query" => query(case),
         "search" => search(case),
         kind => fail(&format!("there is no kind {kind}")),
@@ -32,55 +32,114 @@ fn no_answer(case: &mut Json, why: &str) {
     case.set("no answer", Json::Word(why.to_string()));
 }
 
+/// What a build is lent: how many places of each column, and whether scratch is below its formula.
+#[derive(Clone, Debug)]
+pub struct Lent {
+    pub ranks: usize,
+    pub fwd_starts: usize,
+    pub bwd_starts: usize,
+    pub fwd: [usize; 5],
+    pub bwd: [usize; 5],
+    pub pool: usize,
+    pub scratch_short: bool,
+}
+
+impl Lent {
+    fn of(case: &Json) -> Lent {
+        let lent = case.get("lent");
+        let five = |name: &str| <[usize; 5]>::try_from(lent.get(name).ids()).unwrap_or_else(|_| fail("a table has five columns"));
+        Lent {
+            ranks: lent.get("ranks").id(),
+            fwd_starts: lent.get("fwd_starts").id(),
+            bwd_starts: lent.get("bwd_starts").id(),
+            fwd: five("fwd"),
+            bwd: five("bwd"),
+            pool: case.get("pool").id(),
+            scratch_short: false,
+        }
+    }
+}
+
 fn build(case: &mut Json, with_peak: bool) {
-    let lent = case.get("lent");
+    let lent = Lent::of(case);
     let filled = case.get("filled_with").number();
-    let built = try_build(case, lent);
-    let after = match &built {
-        Ok((graph, _)) => after(lent, graph, filled, filled),
-        Err(10..=12) => after(lent, &FastGraph::default(), INVALID_NODE as u64, WEIGHT_MAX),
-        Err(_) => after(lent, &FastGraph::default(), filled, filled),
-    };
-    let (number, entries, peak) = match built {
-        Ok((graph, peak)) => (0, [graph.edges_fwd.len() as u64, graph.edges_bwd.len() as u64], peak),
-        Err(number) => (number, [0, 0], 0),
+    let built = links(case).and_then(|graph| build_within(&graph, &case.get("order").ids(), case.get("limit").id(), &lent));
+    let places = places(&lent, &built, filled);
+    let mut columns = places.iter().map(|column| Json::of(column));
+    let mut next = || columns.next().unwrap();
+    let (ranks, fwd_starts) = (next(), next());
+    let fwd = Json::List((0..5).map(|_| next()).collect());
+    let bwd_starts = next();
+    let bwd = Json::List((0..5).map(|_| next()).collect());
+    let after = [("ranks", ranks), ("fwd_starts", fwd_starts), ("bwd_starts", bwd_starts), ("fwd", fwd), ("bwd", bwd)];
+    let (number, entries, peak) = match &built {
+        Ok((graph, peak)) => (0, [graph.edges_fwd.len() as u64, graph.edges_bwd.len() as u64], *peak),
+        Err(number) => (*number, [0, 0], 0),
     };
     case.set("number", Json::Number(number));
     case.set("entries", Json::of(&entries));
-    case.set("after", after);
+    case.set("after", Json::Object(after.map(|(name, column)| (name.to_string(), column)).into()));
     if with_peak {
         case.set("peak", Json::Number(peak as u64));
     }
 }
 
 /// The hierarchy and the most live arcs, or the number of the refusal.
-fn try_build(case: &Json, lent: &Json) -> Result<(FastGraph, usize), u64> {
-    let order = case.get("order").ids();
-    let graph = links(case)?;
-    let (fwd, bwd) = (lent.get("fwd").ids(), lent.get("bwd").ids());
+pub fn build_within(graph: &InputGraph, order: &[NodeId], limit: usize, lent: &Lent) -> Result<(FastGraph, usize), u64> {
     let nodes = graph.get_num_nodes();
     if order.len() != nodes {
         return Err(7);
     }
-    if !is_permutation(&order) {
+    if !is_permutation(order) {
         return Err(8);
     }
-    if lent.get("ranks").id() < nodes
-        || lent.get("fwd_starts").id() < nodes + 1
-        || lent.get("bwd_starts").id() < nodes + 1
-        || !equally_long(&fwd)
-        || !equally_long(&bwd)
+    if lent.ranks < nodes
+        || lent.fwd_starts < nodes + 1
+        || lent.bwd_starts < nodes + 1
+        || !equally_long(&lent.fwd)
+        || !equally_long(&lent.bwd)
+        || lent.scratch_short
     {
         return Err(9);
     }
-    let limit = case.get("limit").id();
-    let room = Room { pool: case.get("pool").id(), fwd: fwd[0], bwd: bwd[0] };
-    let peak = contract_within(&graph, &order, limit, &room)?;
+    let room = Room { pool: lent.pool, fwd: lent.fwd[0], bwd: lent.bwd[0] };
+    let peak = contract_within(graph, order, limit, &room)?;
     let params = ParamsWithOrder::new(limit);
-    match FastGraphBuilder::build_with_order_with_params(&graph, &order, &params) {
+    match FastGraphBuilder::build_with_order_with_params(graph, order, &params) {
         Ok(built) => Ok((built, peak)),
         Err(why) => fail(&why),
     }
+}
+
+/// Every lent place after a build: ranks, and for each table starts, bases, neighbours, weights and the two numbers. What was used
+/// comes first, then what the places beyond hold.
+pub fn places(lent: &Lent, built: &Result<(FastGraph, usize), u64>, filled: u64) -> [Vec<u64>; 13] {
+    let none = FastGraph::default();
+    let (graph, rest, weight_rest) = match built {
+        Ok((graph, _)) => (graph, filled, filled),
+        Err(10..=12) => (&none, INVALID_NODE as u64, WEIGHT_MAX),
+        Err(_) => (&none, filled, filled),
+    };
+    let ids = |length: usize, used: &[usize]| column(length, used.iter().map(|&id| id as u64), rest);
+    let side = |lengths: &[usize; 5], used: &[FastGraphEdge], k: usize| {
+        column(lengths[k], used.iter().map(|e| entry(e)[k]), if k == 2 { weight_rest } else { rest })
+    };
+    let (fwd, bwd) = (|k| side(&lent.fwd, &graph.edges_fwd, k), |k| side(&lent.bwd, &graph.edges_bwd, k));
+    [
+        ids(lent.ranks, &graph.ranks),
+        ids(lent.fwd_starts, &graph.first_edge_ids_fwd),
+        fwd(0),
+        fwd(1),
+        fwd(2),
+        fwd(3),
+        fwd(4),
+        ids(lent.bwd_starts, &graph.first_edge_ids_bwd),
+        bwd(0),
+        bwd(1),
+        bwd(2),
+        bwd(3),
+        bwd(4),
+    ]
 }
 
 /// The links of a case, or refusals 1 to 6.
@@ -115,31 +174,8 @@ pub fn checked(nodes: usize, from: &[NodeId], to: &[NodeId], weight: &[Weight]) 
     Ok(InputGraph::new(nodes, edges))
 }
 
-/// Every lent place: what was used, and then what the places beyond hold.
-fn after(lent: &Json, graph: &FastGraph, rest: u64, weight_rest: u64) -> Json {
-    let ids = |name: &str, used: &[usize]| {
-        column(lent.get(name).id(), used.iter().map(|&id| id as u64), rest)
-    };
-    let table = |name: &str, used: &[FastGraphEdge]| {
-        let lengths = lent.get(name).ids();
-        let columns = (0..5).map(|k| {
-            column(lengths[k], used.iter().map(|e| entry(e)[k]), if k == 2 { weight_rest } else { rest })
-        });
-        Json::List(columns.collect())
-    };
-    let columns = [
-        ("ranks", ids("ranks", &graph.ranks)),
-        ("fwd_starts", ids("fwd_starts", &graph.first_edge_ids_fwd)),
-        ("bwd_starts", ids("bwd_starts", &graph.first_edge_ids_bwd)),
-        ("fwd", table("fwd", &graph.edges_fwd)),
-        ("bwd", table("bwd", &graph.edges_bwd)),
-    ];
-    Json::Object(columns.map(|(name, column)| (name.to_string(), column)).into())
-}
-
-fn column(length: usize, used: impl Iterator<Item = u64>, rest: u64) -> Json {
-    let places: Vec<u64> = used.chain(std::iter::repeat(rest)).take(length).collect();
-    Json::of(&places)
+fn column(length: usize, used: impl Iterator<Item = u64>, rest: u64) -> Vec<u64> {
+    used.chain(std::iter::repeat(rest)).take(length).collect()
 }
 
 /// An entry in the order of its columns.
@@ -161,7 +197,7 @@ fn query(case: &mut Json) {
     case.set("number", Json::Number(number));
     case.set("weight", Json::Number(weight));
     case.set("length", Json::Number(walk.len() as u64));
-    case.set("path", column(places, walk.iter().map(|&node| node as u64), filled));
+    case.set("path", Json::of(&column(places, walk.iter().map(|&node| node as u64), filled)));
 }
 
 enum Stop {
@@ -171,7 +207,7 @@ enum Stop {
 
 /// The route or "none".
 fn try_query(case: &Json, places: usize) -> Result<Option<ShortestPath>, Stop> {
-    let graph = read(case).ok_or(Stop::Refused(20))?;
+    let graph = Tables::of(case).read().ok_or(Stop::Refused(20))?;
     let nodes = graph.get_num_nodes();
     let (sources, targets) = (ends(case.get("sources")), ends(case.get("targets")));
     let all = || sources.iter().chain(&targets);

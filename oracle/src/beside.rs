@@ -7,7 +7,7 @@ use crate::preparation_graph::PreparationGraph;
 use crate::random::{below, links, Columns};
 use crate::witness_search::WitnessSearch;
 use crate::fail;
-use crate::timing::timed;
+use crate::timing::best_of;
 
 #[link(name = "searches", kind = "static")]
 extern "C" {
@@ -193,21 +193,6 @@ pub fn compare(count: usize, seed: u64) {
     println!("{count} searches, {asks} answers and counts: all agree");
 }
 
-/// The best of nine runs of each, in turn.
-fn best<T: PartialEq>(mut ours: impl FnMut() -> T, theirs: impl Fn() -> T) -> (f64, f64) {
-    let mut least = (f64::MAX, f64::MAX);
-    for _ in 0..9 {
-        let (ours, seconds) = timed(&mut ours);
-        least.0 = least.0.min(seconds);
-        let (theirs, seconds) = timed(&theirs);
-        least.1 = least.1.min(seconds);
-        if ours != theirs {
-            fail("a mesh was searched otherwise");
-        }
-    }
-    least
-}
-
 /// On each mesh, the links taken in by both: then the searches that contracting each node of the links
 /// would ask for, with both limits.
 pub fn race() {
@@ -217,7 +202,7 @@ pub fn race() {
         let (nodes, links) = (graph.get_num_nodes(), graph.get_edges().len());
         let mut slices = Ours::new(&graph);
         for limit in [100, 500] {
-            let (ours, theirs) = best(|| slices.all_pairs(limit), || crates_pairs(&graph, limit));
+            let (ours, theirs) = best_of(|| slices.all_pairs(limit), || crates_pairs(&graph, limit));
             println!(
                 "{name:<8} {nodes:>6} {links:>6} {limit:>6} {:>9.2} {:>9.2} {:>11.2}",
                 1e3 * ours,

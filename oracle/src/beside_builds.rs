@@ -1,17 +1,14 @@
-//! Runs the proved build beside the crate's, every lent place compared: small graphs one by one, random ones with
-//! rooms exactly enough and one less, faults, columns longer than needed; then the meshes against the clock.
+//! Runs the proved build beside the crate's: every lent place, on all small graphs, on random ones with rooms at their edges and
+//! faults in what is handed in, and against the clock.
 
-use crate::answer::{checked, entry};
-use crate::constants::{NodeId, INVALID_NODE, WEIGHT_MAX};
+use crate::answer::{build_within, checked, places, Lent};
+use crate::constants::NodeId;
 use crate::fail;
-use crate::fast_graph::{FastGraph, FastGraphEdge};
-use crate::fast_graph_builder::{FastGraphBuilder, ParamsWithOrder};
 use crate::input_graph::{Edge, InputGraph};
-use crate::meshes::{mesh, Rng, BUILDS};
-use crate::random::{below, links, Columns};
+use crate::meshes::{mesh, Rng, SMALL};
+use crate::random::{below, links, shuffled, Columns};
 use crate::room::{contract_within, Room};
-use crate::tables::is_permutation;
-use crate::timing::timed;
+use crate::timing::{best_of, build, chosen_order, LIMIT};
 
 #[link(name = "fast_graph_builder", kind = "static")]
 extern "C" {
@@ -44,388 +41,393 @@ extern "C" {
     ) -> u32;
 }
 
-/// A table's columns that are lent, or what they hold.
-#[derive(Clone, Debug, PartialEq)]
-struct Table {
-    starts: Vec<u32>,
-    ids: [Vec<u32>; 4],
-    weights: Vec<u64>,
-}
-
-impl Table {
-    fn new(starts: usize, columns: [usize; 5], fill: u32) -> Table {
-        let [base, neighbour, weight, into, out] = columns;
-        Table {
-            starts: vec![fill; starts],
-            ids: [base, neighbour, into, out].map(|length| vec![fill; length]),
-            weights: vec![fill as u64; weight],
-        }
-    }
-
-    fn mark(&mut self) {
-        self.starts.fill(INVALID_NODE as u32);
-        self.ids.iter_mut().for_each(|column| column.fill(INVALID_NODE as u32));
-        self.weights.fill(WEIGHT_MAX);
-    }
-
-    fn lay(&mut self, starts: &[usize], edges: &[FastGraphEdge]) {
-        for (r, &start) in starts.iter().enumerate() {
-            self.starts[r] = start as u32;
-        }
-        for (e, edge) in edges.iter().enumerate() {
-            let [base, neighbour, weight, into, out] = entry(edge);
-            for (k, id) in [base, neighbour, into, out].into_iter().enumerate() {
-                self.ids[k][e] = id as u32;
-            }
-            self.weights[e] = weight;
-        }
-    }
-}
-
-#[derive(Clone, Debug, PartialEq)]
-struct Lent {
-    ranks: Vec<u32>,
-    fwd: Table,
-    bwd: Table,
-}
-
+/// A build: what is handed in, and how many places of everything are lent.
 #[derive(Clone, Debug)]
-struct Call {
+pub struct Call {
     links: Columns,
     order: Vec<u32>,
     limit: u32,
     pool: u64,
     lent: Lent,
     scratch: [usize; 5],
+    filled: u32,
 }
 
-fn scratch_for(n: usize, pool: usize) -> [usize; 5] {
-    [6 * pool, pool, 4 * n, 2 * n, 2 * (pool + 1)]
+/// docs/SCRATCH.md: arcs, weights, nodes, labels, heap.
+fn scratch(nodes: usize, pool: usize) -> [usize; 5] {
+    [6 * pool, pool, 4 * nodes, 2 * nodes, 2 * (pool + 1)]
 }
 
-impl Call {
-    /// With room that is exactly enough for an accepted graph.
-    fn new(graph: &InputGraph, order: &[NodeId], limit: usize, pool: usize, fwd: usize, bwd: usize, fill: u32) -> Call {
-        let n = graph.get_num_nodes();
-        Call {
-            links: Columns::of(graph),
-            order: order.iter().map(|&v| v as u32).collect(),
-            limit: limit as u32,
-            pool: pool as u64,
-            lent: Lent {
-                ranks: vec![fill; n],
-                fwd: Table::new(n + 1, [fwd; 5], fill),
-                bwd: Table::new(n + 1, [bwd; 5], fill),
-            },
-            scratch: scratch_for(n, pool),
+/// The columns of one table, as lent.
+struct Table {
+    starts: Vec<u32>,
+    bases: Vec<u32>,
+    neighbours: Vec<u32>,
+    weights: Vec<u64>,
+    ins: Vec<u32>,
+    outs: Vec<u32>,
+}
+
+impl Table {
+    fn lent(starts: usize, columns: &[usize; 5], filled: u32) -> Table {
+        let ids = |length| vec![filled; length];
+        Table {
+            starts: ids(starts),
+            bases: ids(columns[0]),
+            neighbours: ids(columns[1]),
+            weights: vec![filled as u64; columns[2]],
+            ins: ids(columns[3]),
+            outs: ids(columns[4]),
+        }
+    }
+
+    fn places(&self) -> [Vec<u64>; 6] {
+        let wide = |column: &[u32]| column.iter().map(|&id| id as u64).collect();
+        [wide(&self.starts), wide(&self.bases), wide(&self.neighbours), self.weights.clone(), wide(&self.ins), wide(&self.outs)]
+    }
+}
+
+/// What a build borrows; scratch holds rubbish.
+pub struct Ours {
+    ranks: Vec<u32>,
+    fwd: Table,
+    bwd: Table,
+    arcs: Vec<u32>,
+    weights: Vec<u64>,
+    nodes: Vec<u32>,
+    labels: Vec<u64>,
+    heap: Vec<u64>,
+}
+
+impl Ours {
+    pub fn lent(call: &Call) -> Ours {
+        let Lent { ranks, fwd_starts, bwd_starts, fwd, bwd, .. } = &call.lent;
+        let [arcs, weights, nodes, labels, heap] = call.scratch;
+        Ours {
+            ranks: vec![call.filled; *ranks],
+            fwd: Table::lent(*fwd_starts, fwd, call.filled),
+            bwd: Table::lent(*bwd_starts, bwd, call.filled),
+            arcs: vec![9; arcs],
+            weights: vec![9; weights],
+            nodes: vec![9; nodes],
+            labels: vec![9; labels],
+            heap: vec![9; heap],
         }
     }
 
     #[rustfmt::skip]
-    fn ours(&self) -> (u32, Lent) {
-        let mut l = self.lent.clone();
-        let [a, w, n, b, h] = self.scratch;
-        let (mut arcs, mut weights, mut nodes) = (vec![7u32; a], vec![7u64; w], vec![7u32; n]);
-        let (mut labels, mut heap) = (vec![7u64; b], vec![7u64; h]);
-        let number = run(self, &mut l, &mut arcs, &mut weights, &mut nodes, &mut labels, &mut heap);
-        (number, l)
+    pub fn build(&mut self, call: &Call) -> u32 {
+        let Ours { ranks, fwd, bwd, arcs, weights, nodes, labels, heap } = self;
+        unsafe {
+            build_with_order(
+                call.links.n,
+                call.links.tails.as_ptr(), call.links.tails.len(),
+                call.links.heads.as_ptr(), call.links.heads.len(),
+                call.links.weights.as_ptr(), call.links.weights.len(),
+                call.order.as_ptr(), call.order.len(),
+                call.limit, call.pool,
+                ranks.as_mut_ptr(), ranks.len(),
+                fwd.starts.as_mut_ptr(), fwd.starts.len(),
+                fwd.bases.as_mut_ptr(), fwd.bases.len(),
+                fwd.neighbours.as_mut_ptr(), fwd.neighbours.len(),
+                fwd.weights.as_mut_ptr(), fwd.weights.len(),
+                fwd.ins.as_mut_ptr(), fwd.ins.len(),
+                fwd.outs.as_mut_ptr(), fwd.outs.len(),
+                bwd.starts.as_mut_ptr(), bwd.starts.len(),
+                bwd.bases.as_mut_ptr(), bwd.bases.len(),
+                bwd.neighbours.as_mut_ptr(), bwd.neighbours.len(),
+                bwd.weights.as_mut_ptr(), bwd.weights.len(),
+                bwd.ins.as_mut_ptr(), bwd.ins.len(),
+                bwd.outs.as_mut_ptr(), bwd.outs.len(),
+                arcs.as_mut_ptr(), arcs.len(),
+                weights.as_mut_ptr(), weights.len(),
+                nodes.as_mut_ptr(), nodes.len(),
+                labels.as_mut_ptr(), labels.len(),
+                heap.as_mut_ptr(), heap.len(),
+            )
+        }
     }
 
-    fn theirs(&self) -> (u32, Lent) {
-        let mut lent = self.lent.clone();
-        let number = match self.crates_build() {
-            Ok(graph) => {
-                for (v, &rank) in graph.ranks.iter().enumerate() {
-                    lent.ranks[v] = rank as u32;
-                }
-                lent.fwd.lay(&graph.first_edge_ids_fwd, &graph.edges_fwd);
-                lent.bwd.lay(&graph.first_edge_ids_bwd, &graph.edges_bwd);
-                0
-            }
-            Err(number) => {
-                if number >= 10 {
-                    lent.ranks.fill(INVALID_NODE as u32);
-                    lent.fwd.mark();
-                    lent.bwd.mark();
-                }
-                number as u32
-            }
-        };
-        (number, lent)
+    fn places(&self) -> Vec<Vec<u64>> {
+        let ranks = self.ranks.iter().map(|&rank| rank as u64).collect();
+        [ranks].into_iter().chain(self.fwd.places()).chain(self.bwd.places()).collect()
+    }
+}
+
+impl Call {
+    /// A build of a graph with room for it, and one place more of everything.
+    fn new(graph: &InputGraph, order: &[NodeId], limit: u32) -> Call {
+        let nodes = graph.get_num_nodes();
+        let pool = nodes * nodes.saturating_sub(1);
+        let entries = pool / 2;
+        Call {
+            links: Columns::of(graph),
+            order: order.iter().map(|&node| node as u32).collect(),
+            limit,
+            pool: pool as u64,
+            lent: Lent {
+                ranks: nodes + 1,
+                fwd_starts: nodes + 2,
+                bwd_starts: nodes + 2,
+                fwd: [entries + 1; 5],
+                bwd: [entries + 1; 5],
+                pool,
+                scratch_short: false,
+            },
+            scratch: scratch(nodes, pool),
+            filled: 77,
+        }
     }
 
-    fn crates_build(&self) -> Result<FastGraph, u64> {
+    /// With just so large a pool, and scratch for it.
+    fn with_pool(&self, pool: usize) -> Call {
+        let mut call = self.clone();
+        call.pool = pool as u64;
+        call.lent.pool = pool;
+        call.scratch = scratch(call.links.n, pool);
+        call
+    }
+
+    fn theirs(&self) -> (u32, Vec<Vec<u64>>) {
         let ids = |column: &[u32]| column.iter().map(|&id| id as NodeId).collect::<Vec<_>>();
         let weights: Vec<u64> = self.links.weights.iter().map(|&weight| weight as u64).collect();
-        let graph = checked(self.links.n, &ids(&self.links.tails), &ids(&self.links.heads), &weights)?;
-        let (n, order) = (graph.get_num_nodes(), ids(&self.order));
-        if order.len() != n {
-            return Err(7);
+        let built = checked(self.links.n, &ids(&self.links.tails), &ids(&self.links.heads), &weights)
+            .and_then(|graph| build_within(&graph, &ids(&self.order), self.limit as usize, &self.lent));
+        let number = *built.as_ref().err().unwrap_or(&0) as u32;
+        (number, places(&self.lent, &built, self.filled as u64).into())
+    }
+
+    /// The number that both answer, with every place alike; stops at the first call that differs.
+    fn compare(&self) -> u32 {
+        let mut lent = Ours::lent(self);
+        let number = lent.build(self);
+        let (ours, theirs) = ((number, lent.places()), self.theirs());
+        if ours != theirs {
+            println!("{self:?}\nours {ours:?}\nthe crate's {theirs:?}");
+            std::process::exit(1)
         }
-        if !is_permutation(&order) {
-            return Err(8);
+        number
+    }
+}
+
+/// How many calls were answered with each number.
+struct Tally([usize; 13]);
+
+impl Tally {
+    fn add(&mut self, number: u32) {
+        self.0[number as usize] += 1;
+    }
+
+    fn say(&self, what: &str) {
+        println!("{} {what}, by number 0 to 12 {:?}: every place agrees", self.0.iter().sum::<usize>(), self.0);
+    }
+}
+
+/// A built graph with every room just enough, and one place less of each.
+fn edges(call: &Call, tally: &mut Tally) {
+    let mut lent = Ours::lent(call);
+    if lent.build(call) != 0 {
+        return;
+    }
+    let n = call.links.n;
+    let (fwd, bwd) = (lent.fwd.starts[n] as usize, lent.bwd.starts[n] as usize);
+    let graph = InputGraph::new(n, call.links.edges());
+    let order: Vec<NodeId> = call.order.iter().map(|&node| node as NodeId).collect();
+    let enough = Room { pool: usize::MAX, fwd, bwd };
+    let Ok(peak) = contract_within(&graph, &order, call.limit as usize, &enough) else { fail("a build that passes has a peak") };
+    let mut exact = call.with_pool(peak);
+    exact.lent = Lent { ranks: n, fwd_starts: n + 1, bwd_starts: n + 1, fwd: [fwd; 5], bwd: [bwd; 5], ..exact.lent };
+    let mut try_call = |call: &Call| tally.add(call.compare());
+    try_call(&exact);
+    if peak > 0 {
+        try_call(&exact.with_pool(peak - 1));
+    }
+    let less = |change: &dyn Fn(&mut Lent)| {
+        let mut call = exact.clone();
+        change(&mut call.lent);
+        call
+    };
+    if n > 0 {
+        try_call(&less(&|lent| lent.ranks -= 1));
+    }
+    try_call(&less(&|lent| lent.fwd_starts -= 1));
+    try_call(&less(&|lent| lent.bwd_starts -= 1));
+    if fwd > 0 {
+        try_call(&less(&|lent| lent.fwd = lent.fwd.map(|k| k - 1)));
+        for k in 0..5 {
+            try_call(&less(&|lent| lent.fwd[k] -= 1));
         }
-        let uneven = |t: &Table| t.starts.len() <= n || t.ids.iter().any(|c| c.len() != t.weights.len());
-        let short = self.pool > 1 << 40
-            || scratch_for(n, self.pool as usize).iter().zip(&self.scratch).any(|(asked, lent)| lent < asked);
-        if self.lent.ranks.len() < n || uneven(&self.lent.fwd) || uneven(&self.lent.bwd) || short {
-            return Err(9);
+    }
+    if bwd > 0 {
+        try_call(&less(&|lent| lent.bwd = lent.bwd.map(|k| k - 1)));
+        for k in 0..5 {
+            try_call(&less(&|lent| lent.bwd[k] -= 1));
         }
-        let room = Room { pool: self.pool as usize, fwd: self.lent.fwd.weights.len(), bwd: self.lent.bwd.weights.len() };
-        contract_within(&graph, &order, self.limit as usize, &room)?;
-        let params = ParamsWithOrder::new(self.limit as usize);
-        FastGraphBuilder::build_with_order_with_params(&graph, &order, &params).map_err(|why| fail(&why))
+    }
+    for k in 0..5 {
+        if exact.scratch[k] > 0 {
+            let mut call = exact.clone();
+            call.scratch[k] -= 1;
+            call.lent.scratch_short = true;
+            try_call(&call);
+        }
     }
 }
 
-#[rustfmt::skip]
-fn run(
-    call: &Call, l: &mut Lent, arcs: &mut [u32], weights: &mut [u64], nodes: &mut [u32], labels: &mut [u64], heap: &mut [u64],
-) -> u32 {
-    let (c, f, b) = (&call.links, &mut l.fwd, &mut l.bwd);
-    unsafe {
-        build_with_order(
-            c.n,
-            c.tails.as_ptr(), c.tails.len(),
-            c.heads.as_ptr(), c.heads.len(),
-            c.weights.as_ptr(), c.weights.len(),
-            call.order.as_ptr(), call.order.len(),
-            call.limit, call.pool,
-            l.ranks.as_mut_ptr(), l.ranks.len(),
-            f.starts.as_mut_ptr(), f.starts.len(),
-            f.ids[0].as_mut_ptr(), f.ids[0].len(),
-            f.ids[1].as_mut_ptr(), f.ids[1].len(),
-            f.weights.as_mut_ptr(), f.weights.len(),
-            f.ids[2].as_mut_ptr(), f.ids[2].len(),
-            f.ids[3].as_mut_ptr(), f.ids[3].len(),
-            b.starts.as_mut_ptr(), b.starts.len(),
-            b.ids[0].as_mut_ptr(), b.ids[0].len(),
-            b.ids[1].as_mut_ptr(), b.ids[1].len(),
-            b.weights.as_mut_ptr(), b.weights.len(),
-            b.ids[2].as_mut_ptr(), b.ids[2].len(),
-            b.ids[3].as_mut_ptr(), b.ids[3].len(),
-            arcs.as_mut_ptr(), arcs.len(),
-            weights.as_mut_ptr(), weights.len(),
-            nodes.as_mut_ptr(), nodes.len(),
-            labels.as_mut_ptr(), labels.len(),
-            heap.as_mut_ptr(), heap.len(),
-        )
-    }
-}
-
-/// How often each number was answered; stops at the first call that differs.
-fn compare_call(call: &Call, answered: &mut [usize; 13]) {
-    let (ours, theirs) = (call.ours(), call.theirs());
-    if ours != theirs {
-        println!("{call:?}\nours {ours:?}\nthe crate's {theirs:?}");
-        std::process::exit(1)
-    }
-    answered[ours.0 as usize] += 1;
-}
-
-fn shown(what: &str, answered: &[usize; 13]) {
-    let numbers: Vec<String> =
-        answered.iter().enumerate().filter(|(_, &n)| n > 0).map(|(k, n)| format!("{k}: {n}")).collect();
-    println!("{} {what}, every lent place agrees; by answer {}", answered.iter().sum::<usize>(), numbers.join(", "));
-}
-
-fn shuffled(numbers: &mut Rng, n: usize) -> Vec<NodeId> {
-    let mut order: Vec<NodeId> = (0..n).collect();
-    for i in (1..n).rev() {
-        order.swap(i, below(numbers, i + 1));
-    }
-    order
-}
-
-fn orders(n: usize) -> Vec<Vec<NodeId>> {
-    if n == 0 {
+fn orders(nodes: usize) -> Vec<Vec<NodeId>> {
+    if nodes == 0 {
         return vec![vec![]];
     }
-    let shorter = orders(n - 1);
-    let with = |order: &Vec<NodeId>, at: usize| {
-        let mut order = order.clone();
-        order.insert(at, n - 1);
-        order
-    };
-    shorter.iter().flat_map(|order| (0..n).map(move |at| with(order, at))).collect()
+    let shorter = orders(nodes - 1);
+    (0..nodes).flat_map(|at| shorter.iter().map(move |order| [&order[..at], &[nodes - 1], &order[at..]].concat())).collect()
 }
 
-/// Every graph of up to 3 nodes with weights 1 and 2, every order, limits 0 to 3.
-fn compare_small() {
-    let mut answered = [0; 13];
-    for n in 0..=3usize {
-        let pairs: Vec<(NodeId, NodeId)> =
-            (0..n).flat_map(|from| (0..n).map(move |to| (from, to))).filter(|(from, to)| from != to).collect();
+/// Every graph of up to three nodes with weights 1 and 2, every order, limits 0 to 3.
+fn tiny() {
+    let (mut plain, mut at_edges) = (Tally([0; 13]), Tally([0; 13]));
+    for nodes in 0..=3usize {
+        let pairs: Vec<(usize, usize)> =
+            (0..nodes).flat_map(|a| (0..nodes).filter(move |&b| a != b).map(move |b| (a, b))).collect();
         for code in 0..3usize.pow(pairs.len() as u32) {
-            let weight = |k: usize| (code / 3usize.pow(k as u32)) % 3;
-            let edges = pairs.iter().enumerate().filter(|&(k, _)| weight(k) > 0);
-            let edges = edges.map(|(k, &(from, to))| Edge { from, to, weight: weight(k) as u64 }).collect();
-            let graph = InputGraph::new(n, edges);
-            for order in orders(n) {
-                for limit in 0..4 {
-                    compare_call(&Call::new(&graph, &order, limit, 6, 3, 3, 77), &mut answered);
+            let weight = |k: usize| code / 3usize.pow(k as u32) % 3;
+            let edge = |(k, &(from, to)): (usize, &(usize, usize))| Edge { from, to, weight: weight(k) as u64 };
+            let graph = InputGraph::new(nodes, pairs.iter().enumerate().map(edge).filter(|e| e.weight > 0).collect());
+            for order in orders(nodes) {
+                for limit in 0..=3 {
+                    let call = Call::new(&graph, &order, limit);
+                    plain.add(call.compare());
+                    edges(&call, &mut at_edges);
                 }
             }
         }
     }
-    shown("builds of every graph of up to 3 nodes", &answered);
+    plain.say("builds of all graphs of up to 3 nodes");
+    at_edges.say("builds of them with just enough room and one place less");
 }
 
-/// One or two faults, or none.
-fn spoil(numbers: &mut Rng, call: &mut Call) {
-    let n = call.links.n;
-    for _ in 0..1 + below(numbers, 2) {
-        let (links, order) = (call.links.tails.len(), call.order.len());
-        match below(numbers, 16) {
-            0 => call.links.n = 1025,
-            1 if links > 0 => call.links.tails.truncate(links - 1),
-            2 if links > 0 => {
-                let at = below(numbers, call.links.heads.len());
-                call.links.heads[at] = n as u32 + below(numbers, 3) as u32
-            }
-            3 if links > 0 => call.links.heads[0] = call.links.tails[0],
-            4 if links > 0 => call.links.weights[0] = 0,
-            5 if links > 1 => call.links.tails.swap(0, links - 1),
-            6 => call.order.push(below(numbers, n + 2) as u32),
-            7 if order > 0 => call.order[0] = n as u32,
-            8 if order > 1 => call.order[0] = call.order[order - 1],
-            9 if n > 0 => call.lent.ranks.truncate(n - 1),
-            10 => call.lent.fwd.starts.truncate(n),
-            11 => call.lent.bwd.ids[below(numbers, 4)].push(5),
-            12 => call.lent.fwd.weights.push(5),
-            13 => {
-                let k = below(numbers, 5);
-                call.scratch[k] = call.scratch[k].saturating_sub(1)
-            }
-            14 => call.pool = u64::MAX - below(numbers, 3) as u64,
-            _ => call.pool = 1 << (32 + below(numbers, 32)),
+/// A fault in what is handed in or lent, or none that matters.
+fn damage(numbers: &mut Rng, call: &mut Call) {
+    let n = call.links.n.min(2000);
+    match below(numbers, 12) {
+        0 => call.order.truncate(below(numbers, n + 1)),
+        1 => call.order.push(below(numbers, n + 1) as u32),
+        2 if !call.order.is_empty() => {
+            let (k, node) = (below(numbers, call.order.len()), below(numbers, n + 2) as u32);
+            call.order[k] = node
+        }
+        3 => call.lent.ranks = below(numbers, n + 2),
+        4 => call.lent.fwd_starts = below(numbers, n + 3),
+        5 => call.lent.bwd_starts = below(numbers, n + 3),
+        6 => call.lent.fwd[below(numbers, 5)] += 1,
+        7 => call.lent.bwd[below(numbers, 5)] = below(numbers, 4),
+        8 => {
+            call.pool = [1 << 63, u64::MAX, 1 << 62, 1 << 32][below(numbers, 4)];
+            call.lent.pool = usize::MAX;
+            call.lent.scratch_short = true
+        }
+        9 => {
+            let k = below(numbers, 5);
+            call.lent.scratch_short |= call.scratch[k] > 0 && { call.scratch[k] -= 1; true }
+        }
+        10 => call.links.damage(numbers),
+        _ => call.limit = u32::MAX,
+    }
+}
+
+/// A random graph of up to 12 nodes, now and then of up to 40 or of up to 1,024.
+fn random_graph(numbers: &mut Rng, case: usize) -> InputGraph {
+    if case % 20_000 == 19_999 {
+        let nodes = 1024 - below(numbers, 200);
+        return sparse(numbers, nodes);
+    }
+    let nodes = below(numbers, if case % 100 == 0 { 41 } else { 13 });
+    if nodes > 12 { sparse(numbers, nodes) } else { links(numbers, nodes) }
+}
+
+fn sparse(numbers: &mut Rng, nodes: usize) -> InputGraph {
+    let heaviest = [1, 9, 4_294_967_295][below(numbers, 3)];
+    let mut ends = std::collections::BTreeSet::new();
+    for _ in 0..2 * nodes {
+        let (from, to) = (below(numbers, nodes), below(numbers, nodes));
+        if from != to {
+            ends.insert((from, to));
         }
     }
+    let edge = |(from, to)| Edge { from, to, weight: 1 + below(numbers, heaviest) as u64 };
+    InputGraph::new(nodes, ends.into_iter().map(edge).collect())
 }
 
-/// Rooms exactly enough, one less, and more, with rubbish in longer columns.
-fn random_call(numbers: &mut Rng, nodes: usize) -> Call {
-    let graph = links(numbers, nodes);
-    let order = shuffled(numbers, nodes);
-    let limit = [0, 1, 2, 3, nodes, nodes + 1, 100, u32::MAX as usize][below(numbers, 8)];
-    let plenty = Room { pool: usize::MAX, fwd: usize::MAX, bwd: usize::MAX };
-    let (peak, fwd, bwd) = match contract_within(&graph, &order, limit, &plenty) {
-        Ok(peak) => {
-            let params = ParamsWithOrder::new(limit);
-            let built = FastGraphBuilder::build_with_order_with_params(&graph, &order, &params);
-            let built = built.unwrap_or_else(|why| fail(&why));
-            (peak, built.edges_fwd.len(), built.edges_bwd.len())
+fn random(count: usize, seed: u64) {
+    let mut numbers = Rng(seed);
+    let mut tally = Tally([0; 13]);
+    for case in 0..count {
+        let graph = random_graph(&mut numbers, case);
+        let nodes = graph.get_num_nodes();
+        let order = shuffled(&mut numbers, nodes);
+        let limit = [0, 1, 2, 3, nodes as u32, nodes as u32 + 1, 100][below(&mut numbers, 7)];
+        let mut call = Call::new(&graph, &order, limit);
+        let arcs = graph.get_edges().len();
+        if below(&mut numbers, 3) == 0 {
+            call = call.with_pool((arcs + below(&mut numbers, 4)).saturating_sub(1));
         }
-        Err(_) => (nodes * nodes, nodes * nodes, nodes * nodes),
-    };
-    let room = |numbers: &mut Rng, exact: usize| match below(numbers, 8) {
-        0 => exact.saturating_sub(1),
-        1..=3 => exact + below(numbers, 9),
-        _ => exact,
-    };
-    let (pool, fwd, bwd) = (room(numbers, peak), room(numbers, fwd), room(numbers, bwd));
-    let mut call = Call::new(&graph, &order, limit, pool, fwd, bwd, numbers.below(1 << 32) as u32);
-    if below(numbers, 3) == 0 {
-        let (ranks, starts) = (below(numbers, 4), below(numbers, 4));
-        call.lent.ranks.extend(vec![9; ranks]);
-        call.lent.bwd.starts.extend(vec![9; starts]);
-        call.scratch.iter_mut().for_each(|length| *length += below(numbers, 5));
+        if below(&mut numbers, 3) == 0 {
+            call.lent.fwd = [below(&mut numbers, arcs + 2); 5];
+        }
+        if below(&mut numbers, 3) == 0 {
+            call.lent.bwd = [below(&mut numbers, arcs + 2); 5];
+        }
+        if below(&mut numbers, 4) == 0 {
+            for _ in 0..1 + below(&mut numbers, 2) {
+                damage(&mut numbers, &mut call);
+            }
+        }
+        tally.add(call.compare());
+        if case % 50 == 0 && nodes <= 40 {
+            edges(&Call::new(&graph, &order, limit), &mut tally);
+        }
     }
-    if below(numbers, 6) == 0 {
-        spoil(numbers, &mut call);
-    }
-    call
+    tally.say("random builds");
 }
 
-/// A line of links of the largest weight, inner nodes in rising order, then the ends.
-fn line(last: usize) -> Call {
-    let edges = (0..last).map(|from| Edge { from, to: from + 1, weight: 4_294_967_295 }).collect();
-    let order: Vec<NodeId> = (1..last).chain([0, last]).collect();
-    Call::new(&InputGraph::new(last + 1, edges), &order, 100, 2 * last, last + 1, last + 1, 3)
+/// The lines of document 01: 256 links of the largest weight, one more, and pair sums of 2^40 and one more.
+fn line_cases() {
+    let mut tally = Tally([0; 13]);
+    for (links, last) in [(256, u32::MAX), (257, u32::MAX), (257, 256), (257, 257)] {
+        let edge = |i| Edge { from: i, to: i + 1, weight: if i + 1 == links { last as u64 } else { u32::MAX as u64 } };
+        let graph = InputGraph::new(links + 1, (0..links).map(edge).collect());
+        let order: Vec<NodeId> = (1..links).chain([0, links]).collect();
+        tally.add(Call::new(&graph, &order, 100).compare());
+    }
+    tally.say("builds of the long line");
 }
 
 pub fn compare(count: usize, seed: u64) {
-    compare_small();
-    let mut answered = [0; 13];
-    let lines = [256, 257].map(|last| line(last).ours().0);
-    for last in [256, 257] {
-        compare_call(&line(last), &mut answered);
-    }
-    shown(&format!("lines, which answer {lines:?}"), &answered);
-    let mut numbers = Rng(seed);
-    let mut answered = [0; 13];
-    for _ in 0..count {
-        let most = [6, 12, 12, 40][below(&mut numbers, 4)];
-        let nodes = below(&mut numbers, most + 1);
-        compare_call(&random_call(&mut numbers, nodes), &mut answered);
-    }
-    shown("random builds of up to 40 nodes", &answered);
-    let mut answered = [0; 13];
-    for name in BUILDS {
-        let graph = mesh(name);
-        let order = crates_order(&graph);
-        let n = graph.get_num_nodes();
-        for limit in [0, 2, 100] {
-            for pool in [n * (n - 1), 20_000, 6_000] {
-                compare_call(&Call::new(&graph, &order, limit, pool, 40_000, 40_000, 3), &mut answered);
-                let fwd = 4_000 + below(&mut numbers, 3_000);
-                compare_call(&Call::new(&graph, &shuffled(&mut numbers, n), limit, pool, fwd, 40_000, 3), &mut answered);
-            }
-        }
-    }
-    shown("builds of up to 1,024 nodes", &answered);
+    tiny();
+    line_cases();
+    random(count, seed);
 }
 
-/// The order that the crate chooses.
-fn crates_order(graph: &InputGraph) -> Vec<NodeId> {
-    let built = FastGraphBuilder::build(graph);
-    let mut order = vec![0; graph.get_num_nodes()];
-    for (v, &rank) in built.ranks.iter().enumerate() {
-        order[rank] = v;
-    }
-    order
-}
-
-/// Both in turn, the order chosen by the crate, limit 100; ours with everything that is lent cleared first.
+/// On each mesh, with the order that the crate chooses: ours with its columns and scratch filled anew each time, the crate with its
+/// own allocations.
 pub fn race() {
-    println!("graph       nodes  links   fwd    bwd   ours ms  crate ms  ours/crate");
-    for name in BUILDS {
+    println!("graph     nodes  links   ours ms  crate ms  ours/crate");
+    for name in SMALL {
         let graph = mesh(name);
-        let order = crates_order(&graph);
-        let params = ParamsWithOrder::new(100);
-        let pool = 4 * graph.get_edges().len();
-        let room = 4 * graph.get_edges().len();
-        let call = Call::new(&graph, &order, 100, pool, room, room, 0);
-        let [a, w, n, b, h] = call.scratch;
-        let (mut arcs, mut weights, mut nodes) = (vec![0u32; a], vec![0u64; w], vec![0u32; n]);
-        let (mut labels, mut heap, mut lent) = (vec![0u64; b], vec![0u64; h], call.lent.clone());
-        let mut least = (f64::MAX, f64::MAX);
-        let mut sizes = (0, 0);
-        for _ in 0..15 {
-            let (number, seconds) = timed(&mut || {
-                lent.clone_from(&call.lent);
-                arcs.fill(0);
-                weights.fill(0);
-                nodes.fill(0);
-                labels.fill(0);
-                heap.fill(0);
-                run(&call, &mut lent, &mut arcs, &mut weights, &mut nodes, &mut labels, &mut heap)
-            });
-            if number != 0 {
-                fail("a mesh was refused");
-            }
-            least.0 = least.0.min(seconds);
-            let (built, seconds) = timed(&mut || FastGraphBuilder::build_with_order_with_params(&graph, &order, &params));
-            least.1 = least.1.min(seconds);
-            let built = built.unwrap_or_else(|why| fail(&why));
-            sizes = (built.edges_fwd.len(), built.edges_bwd.len());
+        let (nodes, links) = (graph.get_num_nodes(), graph.get_edges().len());
+        let order = chosen_order(&graph);
+        let built = build(&graph, &order);
+        let enough = Room { pool: usize::MAX, fwd: usize::MAX, bwd: usize::MAX };
+        let Ok(peak) = contract_within(&graph, &order, LIMIT, &enough) else { fail("a pair sum exceeds 2^40") };
+        let mut call = Call::new(&graph, &order, LIMIT as u32).with_pool(peak);
+        call.lent.fwd = [built.edges_fwd.len(); 5];
+        call.lent.bwd = [built.edges_bwd.len(); 5];
+        if call.compare() != 0 {
+            fail("a mesh was refused");
         }
-        if call.ours() != call.theirs() {
-            fail("a mesh was built otherwise");
-        }
-        println!(
-            "{name:<10} {:>6} {:>6} {:>6} {:>6} {:>9.2} {:>9.2} {:>11.2}",
-            graph.get_num_nodes(), graph.get_edges().len(), sizes.0, sizes.1, 1e3 * least.0, 1e3 * least.1, least.0 / least.1
+        let (ours, theirs) = best_of(
+            || Ours::lent(&call).build(&call) as usize,
+            || build(&graph, &order).ranks.len() * 0,
         );
+        println!("{name:<10} {nodes:>5} {links:>6} {:>9.2} {:>9.2} {:>11.2}", 1e3 * ours, 1e3 * theirs, ours / theirs);
     }
 }

@@ -3,7 +3,7 @@
 
 use crate::answer::checked;
 use crate::changes::{Change, Pooled, Row};
-use crate::constants::{NodeId, INVALID_NODE, MAX_LINKS, MAX_NODES};
+use crate::constants::{NodeId, INVALID_NODE};
 use crate::meshes::Rng;
 use crate::random::{below, links, Columns};
 
@@ -134,38 +134,10 @@ fn compare_changes(numbers: &mut Rng, nodes: usize, tally: &mut Tally) {
     }
 }
 
-/// Puts a fault into columns: a number changed, two links swapped, columns cut or grown, another count of nodes.
-fn damage(numbers: &mut Rng, columns: &mut Columns) {
-    let Columns { n, tails, heads, weights } = columns;
-    let links = tails.len().min(heads.len()).min(weights.len());
-    if links == 0 {
-        return tails.push(0);
-    }
-    let (i, j, node) = (below(numbers, links), below(numbers, links), below(numbers, n.saturating_add(2)) as u32);
-    match below(numbers, 9) {
-        0 => tails[i] = node,
-        1 => heads[i] = node,
-        2 => heads[i] = tails[i],
-        3 => weights[i] = 0,
-        4 => {
-            tails.swap(i, j);
-            heads.swap(i, j)
-        }
-        5 => heads.truncate(i),
-        6 => weights.push(1),
-        7 if node == 0 => {
-            for column in [tails, heads, weights] {
-                column.resize(MAX_LINKS + i % 2, 1);
-            }
-        }
-        _ => *n = [*n - 1, MAX_NODES, MAX_NODES + 1, usize::MAX][below(numbers, 4)],
-    }
-}
-
 fn compare_refusals(numbers: &mut Rng, nodes: usize) -> u32 {
     let mut columns = Columns::of(&links(numbers, nodes));
     for _ in 0..below(numbers, 3) {
-        damage(numbers, &mut columns);
+        columns.damage(numbers);
     }
     let (ours, theirs) = (columns.refusal(), columns.crates_refusal());
     if ours != theirs {

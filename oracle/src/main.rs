@@ -62,17 +62,20 @@ mod shortest_path;
 mod valid_flags;
 
 mod answer;
-#[cfg(beside)]
+#[cfg(beside = "searches")]
 mod beside;
-#[cfg(beside)]
+#[cfg(beside = "builds")]
 mod beside_builds;
-#[cfg(beside)]
+#[cfg(beside = "checks")]
+mod beside_checks;
+#[cfg(beside = "graphs")]
 mod beside_graphs;
 mod changes;
 mod drawn;
 mod json;
 mod meshes;
 #[cfg(beside)]
+#[allow(dead_code)] // some parts may be left out
 mod random;
 mod room;
 mod tables;
@@ -95,24 +98,34 @@ fn main() {
         ["answer", "--peak"] => answer_all(true),
         #[cfg(beside)]
         ["beside", count, seed] => match (count.parse(), seed.parse()) {
-            (Ok(count), Ok(seed)) => {
-                beside_graphs::compare(count, seed);
-                beside::compare(count, seed)
-            }
+            (Ok(count), Ok(seed)) => beside_all(count, seed),
             _ => fail("usage: oracle beside COUNT SEED"),
         },
-        #[cfg(beside)]
-        ["race"] => beside::race(),
-        #[cfg(beside)]
-        ["builds", count, seed] => match (count.parse(), seed.parse()) {
-            (Ok(count), Ok(seed)) => beside_builds::compare(count, seed),
-            _ => fail("usage: oracle builds COUNT SEED"),
-        },
-        #[cfg(beside)]
-        ["race-builds"] => beside_builds::race(),
         ["time", "--write", folder, ref names @ ..] => timing::time(names, Some(Path::new(folder))),
         ["time", ref names @ ..] => timing::time(names, None),
         _ => fail("usage: oracle answer [--peak] | oracle drawn | oracle time [--write FOLDER] [GRAPH ...]"),
+    }
+}
+
+/// The proved code that was linked beside the crate: so many cases of each part, then the meshes against the clock.
+#[cfg(beside)]
+fn beside_all(count: usize, seed: u64) {
+    #[cfg(beside = "graphs")]
+    beside_graphs::compare(count, seed);
+    #[cfg(beside = "searches")]
+    {
+        beside::compare(count, seed);
+        beside::race()
+    }
+    #[cfg(beside = "builds")]
+    {
+        beside_builds::compare(count, seed);
+        beside_builds::race()
+    }
+    #[cfg(beside = "checks")]
+    {
+        beside_checks::compare(count, seed);
+        beside_checks::race()
     }
 }
 

@@ -7,8 +7,10 @@ use std::collections::BTreeMap;
 
 pub const NAMES: [&str; 5] = ["grid32", "grid95", "nearest3", "nearest5", "uniform"];
 
-/// Of at most 1,024 nodes, for builds.
-pub const BUILDS: [&str; 5] = ["grid32", "thousand3", "thousand5", "links2000", "links3000"];
+/// Meshes that a build may be handed: at most 1,024 nodes.
+#[cfg(beside)]
+#[allow(dead_code)] // some parts may be left out
+pub const SMALL: [&str; 5] = ["grid32", "nearest3k", "nearest5k", "uniform2k", "uniform3k"];
 
 pub fn mesh(name: &str) -> InputGraph {
     match name {
@@ -17,10 +19,10 @@ pub fn mesh(name: &str) -> InputGraph {
         "nearest3" => nearest(9_000, 3),
         "nearest5" => nearest(9_000, 5),
         "uniform" => uniform(9_000, 18_000),
-        "thousand3" => nearest(1_000, 3),
-        "thousand5" => nearest(1_000, 5),
-        "links2000" => uniform(1_000, 2_000),
-        "links3000" => uniform(1_000, 3_000),
+        "nearest3k" => nearest(1_000, 3),
+        "nearest5k" => nearest(1_000, 5),
+        "uniform2k" => uniform(1_000, 2_000),
+        "uniform3k" => uniform(1_000, 3_000),
         _ => crate::fail(&format!("there is no graph {name}; there are {}", NAMES.join(", "))),
     }
 }

@@ -4,29 +4,56 @@ use crate::constants::{EdgeId, NodeId, INVALID_EDGE, MAX_NODES, MAX_SUM};
 use crate::fast_graph::{FastGraph, FastGraphEdge};
 use crate::json::Json;
 
-/// The hierarchy in the tables of a case, without the places beyond those used; or none, if it breaks
-/// a table rule.
-pub fn read(case: &Json) -> Option<FastGraph> {
-    let nodes = case.get("nodes").id();
-    let ranks = case.get("ranks").ids();
-    if nodes > MAX_NODES || ranks.len() < nodes || !is_permutation(&ranks[..nodes]) {
-        return None;
+/// Tables as they are handed in: columns of any lengths, and any numbers in them. A table's columns are base, neighbour, weight and the
+/// two numbers.
+#[derive(Clone, Debug)]
+pub struct Tables {
+    pub nodes: usize,
+    pub ranks: Vec<usize>,
+    pub fwd_starts: Vec<usize>,
+    pub fwd: [Vec<u64>; 5],
+    pub bwd_starts: Vec<usize>,
+    pub bwd: [Vec<u64>; 5],
+}
+
+impl Tables {
+    pub fn of(case: &Json) -> Tables {
+        let five = |name: &str| {
+            let columns: Vec<Vec<u64>> = case.get(name).list().iter().map(Json::numbers).collect();
+            columns.try_into().unwrap_or_else(|_| crate::fail("a table has five columns"))
+        };
+        Tables {
+            nodes: case.get("nodes").id(),
+            ranks: case.get("ranks").ids(),
+            fwd_starts: case.get("fwd_starts").ids(),
+            fwd: five("fwd"),
+            bwd_starts: case.get("bwd_starts").ids(),
+            bwd: five("bwd"),
+        }
     }
-    let (first_edge_ids_fwd, edges_fwd) = table(case.get("fwd_starts"), case.get("fwd"), nodes)?;
-    let (first_edge_ids_bwd, edges_bwd) = table(case.get("bwd_starts"), case.get("bwd"), nodes)?;
-    let graph = FastGraph {
-        ranks: ranks[..nodes].to_vec(),
-        edges_fwd,
-        first_edge_ids_fwd,
-        edges_bwd,
-        first_edge_ids_bwd,
-    };
-    let fits = entries_fit(&graph, &graph.first_edge_ids_fwd, &graph.edges_fwd, |e| {
-        (e.base_node, e.adj_node)
-    }) && entries_fit(&graph, &graph.first_edge_ids_bwd, &graph.edges_bwd, |e| {
-        (e.adj_node, e.base_node)
-    });
-    fits.then_some(graph)
+
+    /// The hierarchy in them, without the places beyond those used; or none, if it breaks a table rule.
+    pub fn read(&self) -> Option<FastGraph> {
+        let nodes = self.nodes;
+        if nodes > MAX_NODES || self.ranks.len() < nodes || !is_permutation(&self.ranks[..nodes]) {
+            return None;
+        }
+        let (first_edge_ids_fwd, edges_fwd) = table(&self.fwd_starts, &self.fwd, nodes)?;
+        let (first_edge_ids_bwd, edges_bwd) = table(&self.bwd_starts, &self.bwd, nodes)?;
+        let graph = FastGraph {
+            ranks: self.ranks[..nodes].to_vec(),
+            edges_fwd,
+            first_edge_ids_fwd,
+            edges_bwd,
+            first_edge_ids_bwd,
+        };
+        let fits = entries_fit(&graph, &graph.first_edge_ids_fwd, &graph.edges_fwd, |e| {
+            (e.base_node, e.adj_node)
+        }) && entries_fit(&graph, &graph.first_edge_ids_bwd, &graph.edges_bwd, |e| {
+            (e.adj_node, e.base_node)
+        });
+        fits.then_some(graph)
+    }
 }
 
 /// Whether the numbers below their count stand there, each once.
@@ -40,14 +67,12 @@ pub fn equally_long(columns: &[usize]) -> bool {
 }
 
 /// The starts and the used entries of one table, if its columns and starts keep the rules.
-fn table(starts: &Json, columns: &Json, nodes: usize) -> Option<(Vec<EdgeId>, Vec<FastGraphEdge>)> {
-    let columns: Vec<Vec<u64>> = columns.list().iter().map(Json::numbers).collect();
-    let lengths: Vec<usize> = columns.iter().map(Vec::len).collect();
-    let mut starts = starts.ids();
+fn table(starts: &[usize], columns: &[Vec<u64>; 5], nodes: usize) -> Option<(Vec<EdgeId>, Vec<FastGraphEdge>)> {
+    let lengths = columns.each_ref().map(Vec::len);
     if !equally_long(&lengths) || starts.len() < nodes + 1 {
         return None;
     }
-    starts.truncate(nodes + 1);
+    let starts = starts[..nodes + 1].to_vec();
     if starts[0] != 0 || !starts.is_sorted() || starts[nodes] > lengths[0] {
         return None;
     }

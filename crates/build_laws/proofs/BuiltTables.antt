@@ -2,7 +2,7 @@
 use mathlib.Core.Path.{_≡_, refl, sym, _∙_, ap, ap₂, subst}
 use mathlib.Core.Logic.{inl, inr}
 use mathlib.Core.Bool.{Bool, _&&_}
-use mathlib.Core.List.{List, [], _∷_, map, append-nil, Memᴰ·cast}
+use mathlib.Core.List.{List, [], map, append-nil, Memᴰ·cast}
 use Prim.Native.Nat.{ℕ, suc, _+_, _-_, _≤_, _<_, zero-le}
 use native.Mathlib.Omega.{arith}
 use native.Mathlib.Nat.{zero-add, add-sub-of-le}
@@ -22,8 +22,9 @@ use Rattle.rules.proofs.Cases.{on-test}
 use Rattle.rules.proofs.Members.{getD-in, in-getD, in-map, map-in}
 use Rattle.rules.proofs.Positions.{position-below, position-passes, position-first, position-is, same-position}
 use Rattle.rules.proofs.Prefixes.{prefix, prefix-next, prefix-most, sums-at, sums-length, sizes, flat-length, flat-at, in-flat, flat-in, over-at, over-length, map-at, range-length, range-at}
+use Rattle.rules.proofs.Ranks.{level-size, same-sizes}
+use Rattle.rules.specs.Accepted.{AcceptedBuild}
 use Rattle.build_laws.proofs.Levels.{rank-of, Opened, LevelOk, own-end, apart-same}
-use Rattle.build_laws.proofs.Accepted.{AcceptedBuild}
 use Rattle.build_laws.proofs.Starts.{Contracted, ranked}
 
 -- nothing, where a list is asked beyond its end
@@ -119,14 +120,6 @@ laid-columns lent starts es k h =
     col column f e = over-length column (map f es) (omega (arith, length-map es f)) ∙ e
 
 -- an entry for each arc
-pub level-size : (s : Side) (l : Level) → length (level-raws s l) ≡ length (arcs-of s l)
-unfolding level-raws
-level-size s l = length-map (arcs-of s l) _
-
-same-sizes : (s : Side) (ls : List Level) → sizes (level-raws s) ls ≡ map (λ l. length (arcs-of s l)) ls
-same-sizes s [] = refl
-same-sizes s (l ∷ ls) = ap₂ (λ x xs. x ∷ xs) (level-size s l) (same-sizes s ls)
-
 module _ (c : BuildCall) (ok : AcceptedBuild c) (small : (w : ℕ) → In w (c .links .weights) → w ≤ maxLinkWeight)
     (b : Building) (done : Contracted c ok small b) where
   abbrev pub links : List Link

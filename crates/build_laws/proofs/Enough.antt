@@ -19,12 +19,14 @@ use Rattle.rules.proofs.Members.{in-map}
 use Rattle.rules.proofs.Positions.{same-position}
 use Rattle.rules.proofs.Pigeonhole.{at-most}
 use Rattle.rules.proofs.Prefixes.{flat-map-append}
-use Rattle.build_laws.proofs.Levels.{rank-of, level-of, with-level, LevelOk, level-ok}
+use Rattle.rules.proofs.Ranks.{level-of, with-level, level-size}
+use Rattle.rules.proofs.Numbers.{went-only, pool-leaf, tables-leaf}
+use Rattle.rules.specs.Accepted.{AcceptedBuild}
+use Rattle.build_laws.proofs.Levels.{rank-of, LevelOk, level-ok}
 use Rattle.build_laws.proofs.Runs.{RunOk, next-rank, next-inside}
-use Rattle.build_laws.proofs.Accepted.{AcceptedBuild}
 use Rattle.build_laws.proofs.Room.{codes-distinct, live-most}
-use Rattle.build_laws.proofs.BuiltTables.{ends-by-side, level-size}
-use Rattle.build_laws.proofs.Refused.{went-only, contraction-only, pool-leaf, tables-leaf}
+use Rattle.build_laws.proofs.BuiltTables.{ends-by-side}
+use Rattle.build_laws.proofs.Refused.{contraction-only}
 
 -- 0 + 1 + .. + (n - 1), which is n(n - 1)/2
 unfoldable pub triangle : ℕ → ℕ

@@ -16,9 +16,10 @@ use Rattle.rules.specs.Build.{arcs-of, neighbour-of, raw, Building, finish-cont
 use Rattle.rules.proofs.TablesDecided.{tables-decided}
 use Rattle.rules.proofs.Members.{getD-in}
 use Rattle.rules.proofs.Prefixes.{map-at, range-length, range-at}
+use Rattle.rules.proofs.Accepted.{accepted-build}
+use Rattle.rules.specs.Accepted.{AcceptedBuild}
 use Rattle.walks.specs.Agreement.{cut}
 use Rattle.walks.proofs.Cut.{cut-rules}
-use Rattle.build_laws.proofs.Accepted.{AcceptedBuild, accepted-build}
 use Rattle.build_laws.proofs.Starts.{Contracted, ranked, contraction-went}
 use Rattle.build_laws.proofs.BuiltTables.{no-arc, no-level, finish-keeps, begin-is, starts-at, starts-next, entry-is, raw-at, before-end, level-at, level-is, rank-is, rank-at}
 use Rattle.build_laws.proofs.Promised.{neighbours-distinct}

@@ -2,7 +2,7 @@
 use mathlib.Core.Path.{_≡_, refl, sym, _∙_, ap}
 use mathlib.Core.Logic.{_⊎_, inl, inr}
 use mathlib.Core.Bool.{Bool, false≢true}
-use mathlib.Core.List.{List, [], _∷_, _++_, List·Memᴰ·head, List·Memᴰ·tail, List·Memᴰ·cases-cons, List·Memᴰ·not-nil, List·Memᴰ·eq-of-singleton, Memᴰ·append-left, Memᴰ·append-right}
+use mathlib.Core.List.{List, [], _∷_, List·Memᴰ·head, List·Memᴰ·tail, List·Memᴰ·cases-cons, List·Memᴰ·not-nil, List·Memᴰ·eq-of-singleton, Memᴰ·append-left, Memᴰ·append-right}
 use Prim.Native.Nat.{ℕ, suc, _+_, _≤_, _<_}
 use native.Mathlib.Omega.{arith}
 use native.Mathlib.Decide.{ℕ-discrete}
@@ -19,6 +19,7 @@ use Rattle.rules.proofs.Decides.{both-and}
 use Rattle.rules.proofs.Cases.{on-test}
 use Rattle.rules.proofs.Members.{in-keep}
 use Rattle.rules.proofs.Positions.{same-position}
+use Rattle.rules.proofs.Ranks.{level-of, with-level}
 use Rattle.walks.specs.Walks.{Linked}
 use Rattle.search_laws.proofs.Graphs.{in-outs, in-ins, in-disconnected, reduced, in-added}
 use Rattle.build_laws.proofs.Contraction.{shortcuts-keep, contracted}
@@ -90,13 +91,6 @@ apart-same (z ∷ g) a x y mx my p q =
             | inr ly ↦ apart-same g (a .1) x y lx ly p q
           ]
     ]
-
--- the level that rule 2 writes for v, and the levels with it
-abbrev pub level-of : ℕ → List Arc → Level
-level-of v g = record { node = v; outs = outs g v; ins = ins g v }
-
-abbrev pub with-level : List Level → ℕ → List Arc → List Level
-with-level levels v g = levels ++ (level-of v g ∷ [])
 
 -- the end of an arc whose list it stands in
 unfoldable pub own-end : Side → Arc → ℕ

@@ -2,7 +2,6 @@
 pub mod Contraction
 pub mod Levels
 pub mod Runs
-pub mod Accepted
 pub mod Starts
 pub mod BuiltTables
 pub mod Room

@@ -15,10 +15,11 @@ use Rattle.rules.specs.Search.{init, find-max-weight}
 use Rattle.rules.specs.Build.{Step, went, refused, and-then, in-pool, from-links, graph-of, Contracting, shortcut, add, unless-witness, ask, within-sum, pair, pairs-of, handle-shortcuts, contract-node, in-tables, Level, Building, rank-step, rank-steps, contraction}
 use Rattle.rules.proofs.Cases.{on-test}
 use Rattle.rules.proofs.Ranges.{distinct-decides}
-use Rattle.build_laws.proofs.Accepted.{AcceptedBuild}
+use Rattle.rules.proofs.Ranks.{rank-stepped, with-level}
+use Rattle.rules.specs.Accepted.{AcceptedBuild}
 use Rattle.build_laws.proofs.Contraction.{Adds, pair-keeps, pairs-of-keeps, pool-held}
-use Rattle.build_laws.proofs.Levels.{with-level, GraphOk, before, adds}
-use Rattle.build_laws.proofs.Runs.{RunOk, next-rank, rank-stepped, step-ok}
+use Rattle.build_laws.proofs.Levels.{GraphOk, before, adds}
+use Rattle.build_laws.proofs.Runs.{RunOk, next-rank, step-ok}
 use Rattle.build_laws.proofs.Starts.{first-run}
 use Rattle.build_laws.proofs.Room.{live-most}
 

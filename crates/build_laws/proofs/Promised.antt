@@ -19,15 +19,16 @@ use Rattle.rules.specs.Unpack.{is-shortcut}
 use Rattle.rules.proofs.Members.{in-map}
 use Rattle.rules.proofs.Pigeonhole.{at-most}
 use Rattle.rules.proofs.Prefixes.{prefix, sizes, locate, flat-length, flat-at-most, range-in}
+use Rattle.rules.proofs.Ranks.{level-size}
+use Rattle.rules.specs.Accepted.{AcceptedBuild}
 use Rattle.walks.specs.Walks.{Linked}
 use Rattle.walks.specs.Promise.{Entries, Promise}
 use Rattle.walks.proofs.Paths.{Lighter, lighter-path}
 use Rattle.build_laws.proofs.Levels.{rank-of, own-end}
 use Rattle.build_laws.proofs.Runs.{LevelEdges}
-use Rattle.build_laws.proofs.Accepted.{AcceptedBuild}
 use Rattle.build_laws.proofs.Room.{codes-distinct}
 use Rattle.build_laws.proofs.Starts.{Contracted}
-use Rattle.build_laws.proofs.BuiltTables.{ends-by-side, level-size, tables-rule, links, At, within-rank, used-is, level-is, level-count, ranked-below, node-below, finish-keeps, opens, entry-ends, found-entry, begin-is, rank-is}
+use Rattle.build_laws.proofs.BuiltTables.{ends-by-side, tables-rule, links, At, within-rank, used-is, level-is, level-count, ranked-below, node-below, finish-keeps, opens, entry-ends, found-entry, begin-is, rank-is}
 
 -- arcs of one end in common have no neighbour twice
 pub neighbours-distinct : (s : Side) (v : ℕ) (xs : List Arc) → Apart xs → ((x : Arc) → In x xs → own-end s x ≡ v) → distinct (map (neighbour-of s) xs) ≡ true

@@ -1,8 +1,7 @@
 -- With which numbers a contraction can end: one traversal of its steps, over what the numbers are to pass.
-use mathlib.Core.Path.{_≡_, refl, sym, _∙_, ap}
-use mathlib.Core.Bool.{_&&_}
+use mathlib.Core.Path.{_≡_, refl, ap}
 use mathlib.Core.List.{List, [], _∷_, List·Memᴰ·head, List·Memᴰ·tail, List·Memᴰ·eq-of-singleton, Memᴰ·cast}
-use Prim.Native.Nat.{ℕ, zero, suc, _+_, _≤_}
+use Prim.Native.Nat.{ℕ, suc, _+_, _≤_}
 use native.Mathlib.Omega.{arith}
 use lib.Dec.{eqb, ltb, leb}
 use lib.ListN.{length}
@@ -13,39 +12,26 @@ use Rattle.rules.specs.Columns.{Link, linkList, forward, backward, room}
 use Rattle.rules.specs.Refusals.{BuildCall, build-refusal}
 use Rattle.rules.specs.Graph.{Arc, outs, ins}
 use Rattle.rules.specs.Search.{init, find-max-weight}
-use Rattle.rules.specs.Build.{Step, went, refused, and-then, in-pool, from-links, Contracting, shortcut, add, unless-witness, ask, within-sum, pair, pairs-of, handle-shortcuts, contract-node, Level, raws, in-tables, Building, rank-step, rank-steps, contraction, finish-contraction, built, unless-refused, build}
+use Rattle.rules.specs.Build.{went, refused, in-pool, from-links, Contracting, shortcut, add, unless-witness, ask, within-sum, pair, pairs-of, handle-shortcuts, contract-node, Level, in-tables, Building, rank-step, rank-steps, contraction, finish-contraction, build}
 use Rattle.rules.specs.Lists.{In}
 use Rattle.rules.proofs.Cases.{on-test}
-use Rattle.rules.proofs.Steps.{refused-not-went}
+use Rattle.rules.proofs.Accepted.{accepted-build}
+use Rattle.rules.proofs.Ranks.{Stepped, rank-stepped, with-level}
+use Rattle.rules.proofs.Numbers.{Only, went-only, refused-only, then-only}
+use Rattle.rules.proofs.Outcomes.{early, late, whole, ended}
+use Rattle.rules.specs.Accepted.{AcceptedBuild}
 use Rattle.walks.specs.Promise.{Promise}
 use Rattle.build_laws.proofs.Contraction.{Adds, pair-keeps, pairs-of-keeps, pool-held}
-use Rattle.build_laws.proofs.Levels.{rank-of, with-level, GraphOk, before, adds}
-use Rattle.build_laws.proofs.Runs.{RunOk, Stepped, rank-stepped, step-ok, next-rank}
-use Rattle.build_laws.proofs.Accepted.{AcceptedBuild, accepted-build}
+use Rattle.build_laws.proofs.Levels.{rank-of, GraphOk, before, adds}
+use Rattle.build_laws.proofs.Runs.{RunOk, step-ok, next-rank}
 use Rattle.build_laws.proofs.Starts.{first-building, first-run, links-ok, contraction-went}
 use Rattle.build_laws.proofs.Promised.{promise}
 
--- Whatever number a step ends with passes P.
 module _ (P : ℕ → Type 0) where
-  module _ {A : Type 0} where
-    abbrev pub Only : Step A → Type 0
-    Only m = (r : ℕ) → m ≡ refused r → P r
-
-    pub went-only : (a : A) → Only (went a)
-    went-only a r e = absurd (refused-not-went (sym e))
-
-    pub refused-only : (k : ℕ) → P k → Only (refused k)
-    refused-only k p r e = let same : k ≡ r = cc in rw same at p
-
-  then-only : {A B : Type 0} (m : Step A) (f : A → Step B) → Only m → ((a : A) → m ≡ went a → Only (f a)) → Only (and-then m f)
-  unfolding and-then
-  then-only (went a) f p q = q a refl
-  then-only (refused k) f p q = λ r e. p r (let same : k ≡ r = cc in ap refused same)
-
   -- The steps, given that 12 passes, and the numbers that pool and tables give on what a build meets.
   module _ (c : BuildCall) (ok : AcceptedBuild c) (small : (w : ℕ) → In w (c .links .weights) → w ≤ maxLinkWeight)
       (twelve : P 12)
-      (pool-only : (levels : List Level) (r t : ℕ) (g : List Arc) → GraphOk (c .order) (linkList (c .links)) levels r t g → Only (in-pool (c .pool) g)) where
+      (pool-only : (levels : List Level) (r t : ℕ) (g : List Arc) → GraphOk (c .order) (linkList (c .links)) levels r t g → Only P (in-pool (c .pool) g)) where
     abbrev ls : List Link
     ls = linkList (c .links)
 
@@ -61,34 +47,34 @@ module _ (P : ℕ → Type 0) where
       keeps xs bs subx subb a b k ma mb off low _ x =
           adds (c .order) ls (c .pool) (c .limit) v r at levels g gok a b k (subx a ma) (subb b mb) off low x
 
-      pair-only : (a b : Arc) → In a (ins g v) → In b (outs g v) → (k : Contracting) → Mid (k .graph) → Only (pair (c .pool) (c .limit) v a b k)
+      pair-only : (a b : Arc) → In a (ins g v) → In b (outs g v) → (k : Contracting) → Mid (k .graph) → Only P (pair (c .pool) (c .limit) v a b k)
       unfolding pair within-sum ask unless-witness add shortcut
       pair-only a b ma mb k mid =
           on-test (eqb (a .tail) (b .head))
-          (λ t. rw (t, pair) (went-only k))
+          (λ t. rw (t, pair) (went-only P k))
           (λ t.
           rw (t, pair)
           (on-test (ltb maxWeight (a .weight + b .weight))
-          (λ u. rw (u, within-sum) (refused-only 12 twelve))
+          (λ u. rw (u, within-sum) (refused-only P 12 twelve))
           (λ u.
           rw (u, within-sum)
           (on-test (leb (find-max-weight (k .graph) v (c .limit) (b .head) (a .weight + b .weight) (k .search) .weight) (a .weight + b .weight))
-          (λ w. rw (w, unless-witness) (went-only _))
+          (λ w. rw (w, unless-witness) (went-only P _))
           (λ w.
           rw (w, unless-witness)
-          (then-only _ _
+          (then-only P _ _
           (pool-only (with-level levels v g) r (suc r) _
           (adds (c .order) ls (c .pool) (c .limit) v r at levels g gok a b (k .graph) ma mb (eqb-false (a .tail) (b .head) t)
           (ltb-false maxWeight (a .weight + b .weight) u)
           mid))
-          (λ m _. went-only _)))))))
+          (λ m _. went-only P _)))))))
 
       pairs-of-only : (a : Arc) (bs : List Arc) → In a (ins g v) → ((b : Arc) → In b bs → In b (outs g v)) → (k : Contracting) → Mid (k .graph) →
-          Only (pairs-of (c .pool) (c .limit) v a bs k)
+          Only P (pairs-of (c .pool) (c .limit) v a bs k)
       unfolding pairs-of
-      pairs-of-only a [] ma subb k mid = went-only k
+      pairs-of-only a [] ma subb k mid = went-only P k
       pairs-of-only a (b ∷ bs) ma subb k mid =
-          then-only _ _ (pair-only a b ma (subb b (List·Memᴰ·head refl)) k mid)
+          then-only P _ _ (pair-only a b ma (subb b (List·Memᴰ·head refl)) k mid)
           (λ k′ e.
           pairs-of-only a bs ma (λ b′ m. subb b′ (List·Memᴰ·tail m)) k′
           (pair-keeps (c .pool) (c .limit) v Mid a b k k′
@@ -98,12 +84,12 @@ module _ (P : ℕ → Type 0) where
           mid))
 
       shortcuts-only : (xs : List Arc) → ((a : Arc) → In a xs → In a (ins g v)) → (k : List Arc) → Mid k →
-          Only (handle-shortcuts (c .pool) (c .limit) v xs (outs g v) k)
+          Only P (handle-shortcuts (c .pool) (c .limit) v xs (outs g v) k)
       unfolding handle-shortcuts
-      shortcuts-only [] subx k mid = went-only k
+      shortcuts-only [] subx k mid = went-only P k
       shortcuts-only (a ∷ xs) subx k mid =
           let start : Contracting = record { graph = k; search = init (a .tail) } in
-          then-only _ _ (pairs-of-only a (outs g v) (subx a (List·Memᴰ·head refl)) (λ b m. m) start mid)
+          then-only P _ _ (pairs-of-only a (outs g v) (subx a (List·Memᴰ·head refl)) (λ b m. m) start mid)
           (λ k′ e.
           shortcuts-only xs (λ a′ m. subx a′ (List·Memᴰ·tail m)) (k′ .graph)
           (pairs-of-keeps (c .pool) (c .limit) v Mid a (outs g v) start k′
@@ -111,69 +97,41 @@ module _ (P : ℕ → Type 0) where
           e
           mid))
 
-      contract-only : Only (contract-node (c .pool) (c .limit) v g)
+      contract-only : Only P (contract-node (c .pool) (c .limit) v g)
       unfolding contract-node
       contract-only =
-          then-only _ _ (shortcuts-only (ins g v) (λ a m. m) g (before (c .order) ls (c .pool) (c .limit) v r at levels g gok))
-          (λ k _. went-only _)
+          then-only P _ _ (shortcuts-only (ins g v) (λ a m. m) g (before (c .order) ls (c .pool) (c .limit) v r at levels g gok))
+          (λ k _. went-only P _)
 
     -- the run over the order, with what else may hold of every state, B
     module _ (B : Building → Type 0)
         (tables-only : (v : ℕ) (vs : List ℕ) (b : Building) → RunOk c ls 0 differ (v ∷ vs) b → B b →
-        Only (in-tables (room (c .lent .forward)) (room (c .lent .backward)) (with-level (b .levels) v (b .graph))))
+        Only P (in-tables (room (c .lent .forward)) (room (c .lent .backward)) (with-level (b .levels) v (b .graph))))
         (next : (v : ℕ) (vs : List ℕ) (b k : Building) → RunOk c ls 0 differ (v ∷ vs) b → Stepped c v b k → B b → B k)
         (first : B (first-building c ok small)) where
-      steps-only : (vs : List ℕ) (b : Building) → RunOk c ls 0 differ vs b → B b → Only (rank-steps c vs b)
+      steps-only : (vs : List ℕ) (b : Building) → RunOk c ls 0 differ vs b → B b → Only P (rank-steps c vs b)
       unfolding rank-steps rank-step
-      steps-only [] b run x = went-only b
+      steps-only [] b run x = went-only P b
       steps-only (v ∷ vs) b run x =
-          then-only _ _
-          (then-only _ _ (tables-only v vs b run x)
+          then-only P _ _
+          (then-only P _ _ (tables-only v vs b run x)
           (λ levels _.
-          then-only _ _
+          then-only P _ _
           (contract-only v (length (b .levels)) (next-rank c ls 0 differ v vs b run) (b .levels) (b .graph) (run .graph))
-          (λ g _. went-only _)))
+          (λ g _. went-only P _)))
           (λ k e.
           let s = rank-stepped c v b k e in
           steps-only vs k (step-ok c ls 0 differ v vs b run k s) (next v vs b k run s x))
 
-      pub contraction-only : Only (contraction c)
+      pub contraction-only : Only P (contraction c)
       unfolding contraction from-links
       contraction-only =
-          then-only _ _ (pool-only [] 0 0 _ (links-ok c ok small))
+          then-only P _ _ (pool-only [] 0 0 _ (links-ok c ok small))
           (λ g e.
           let same = pool-held (c .pool) _ g e .0 in
           rw same (steps-only (c .order) (first-building c ok small) (first-run c ok small) first))
 
--- A leaf's own number is all that it can end with.
-pub pool-leaf : (P : ℕ → Type 0) → P 10 → (pool : ℕ) (g : List Arc) → Only P (in-pool pool g)
-unfolding in-pool
-pool-leaf P ten pool g =
-    on-test (leb (length g) pool)
-    (λ t. rw (t, in-pool) (went-only P g))
-    (λ t. rw (t, in-pool) (refused-only P 10 ten))
-
-pub tables-leaf : (P : ℕ → Type 0) → P 11 → (fwd bwd : ℕ) (levels : List Level) → Only P (in-tables fwd bwd levels)
-unfolding in-tables
-tables-leaf P eleven fwd bwd levels =
-    on-test (leb (length (raws forward levels)) fwd && leb (length (raws backward levels)) bwd)
-    (λ t. rw (t, in-tables) (went-only P levels))
-    (λ t. rw (t, in-tables) (refused-only P 11 eleven))
-
 module _ (c : BuildCall) (small : (w : ℕ) → In w (c .links .weights) → w ≤ maxLinkWeight) where
-  abbrev Late : ℕ → Type 0
-  Late r = (10 ≤ r) × (r ≤ 12)
-
-  -- a contraction that ends early ends with 10, 11 or 12
-  pub contraction-ends : AcceptedBuild c → Only Late (contraction c)
-  contraction-ends ok =
-      contraction-only Late c ok small (omega arith, omega arith)
-      (λ levels r t g _. pool-leaf Late (omega arith, omega arith) (c .pool) g)
-      (λ _. Unit {0})
-      (λ v vs b _ _. tables-leaf Late (omega arith, omega arith) (room (c .lent .forward)) (room (c .lent .backward)) _)
-      (λ v vs b k _ _ x. x)
-      tt
-
   -- a build that answers 0 was accepted, and its contraction went
   pub record Went : Type 0 where
     pub accepted : build-refusal c ≡ 0
@@ -182,18 +140,12 @@ module _ (c : BuildCall) (small : (w : ℕ) → In w (c .links .weights) → w �
     pub tables : build c .hierarchy ≡ finish-contraction c (building .levels)
 
   pub build-went : build c .number ≡ 0 → Went
-  unfolding build unless-refused built
-  build-went e = go (build-refusal c) refl (contraction c) refl
-    where
-      go : (r : ℕ) → build-refusal c ≡ r → (m : Step Building) → contraction c ≡ m → Went
-      go zero p (went b) q =
-          record { accepted = p; building = b; contracts = q; tables = ap (λ x. x .hierarchy) (ap (unless-refused c) p ∙ ap (built c) q) }
-      go zero p (refused k) q =
-          let k-is : k ≡ 0 = sym (ap (λ x. x .number) (ap (unless-refused c) p ∙ ap (built c) q)) ∙ e in
-          absurd (omega (arith, contraction-ends (accepted-build c p) k q .0, k-is))
-      go (suc r) p m q =
-          let r-is : suc r ≡ 0 = sym (ap (λ x. x .number) (ap (unless-refused c) p)) ∙ e in
-          absurd (omega (arith, r-is))
+  build-went done =
+      elim (ended c) [
+        | early r p low high e ↦ absurd (omega (arith, ap (λ x. x .number) e))
+        | late r p q low high e ↦ absurd (omega (arith, ap (λ x. x .number) e))
+        | whole b p q e ↦ record { accepted = p; building = b; contracts = q; tables = ap (λ x. x .hierarchy) e }
+      ]
 
   -- The build's half: what a build that was not refused promises.
   pub build-half : build c .number ≡ 0 → Promise (c .nodes) (linkList (c .links)) (build c .hierarchy)

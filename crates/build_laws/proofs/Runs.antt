@@ -1,70 +1,31 @@
 -- The run over the order: every level is as it should be, and what the graph reaches goes up and down by levels.
 use mathlib.Core.Path.{_≡_, refl, sym, _∙_, ap}
 use mathlib.Core.Logic.{inl, inr}
-use mathlib.Core.Bool.{_&&_}
 use mathlib.Core.List.{List, [], _∷_, _++_, map, map-append, append-assoc, List·Memᴰ·head, List·Memᴰ·not-nil, List·Memᴰ·eq-of-singleton, Memᴰ·cast, Memᴰ·append-left, Memᴰ·append-right, List·Memᴰ·append-cases}
 use Prim.Native.Nat.{ℕ, suc, _+_, _-_, _≤_, _<_, zero-le}
 use native.Mathlib.Omega.{arith}
 use native.Mathlib.Numerals.{add-one}
 use native.Mathlib.Nat.{add-sub-of-le}
 use native.Mathlib.Decide.{ℕ-discrete}
-use lib.Dec.{eqb, leb}
+use lib.Dec.{eqb}
 use lib.ListN.{length, getD, length-append, length-map}
 use lib.Seq.{getD-append-seam, getD-append-add}
-use borrow.Author.Tests.{eq-eqb, leb-true}
+use borrow.Author.Tests.{eq-eqb}
 use Rattle.rules.specs.Lists.{In}
-use Rattle.rules.specs.Columns.{Link, Side, forward, backward, room}
+use Rattle.rules.specs.Columns.{Link, Side, forward, backward}
 use Rattle.rules.specs.Refusals.{BuildCall}
 use Rattle.rules.specs.Graph.{Arc}
-use Rattle.rules.specs.Build.{went, in-tables, contract-node, Level, arcs-of, neighbour-of, raws, Building, rank-step, rank-steps}
-use Rattle.rules.proofs.Decides.{and-both}
+use Rattle.rules.specs.Build.{went, Level, arcs-of, neighbour-of, Building, rank-step, rank-steps}
 use Rattle.rules.proofs.Ranges.{Differ}
-use Rattle.rules.proofs.Cases.{on-test}
-use Rattle.rules.proofs.Steps.{went-same, refused-not-went, both-went}
+use Rattle.rules.proofs.Steps.{went-same, both-went}
 use Rattle.rules.proofs.Members.{getD-in, in-rest}
 use Rattle.rules.proofs.Positions.{position-is, position-first}
+use Rattle.rules.proofs.Ranks.{level-of, with-level, Stepped, rank-stepped}
 use Rattle.walks.specs.Paths.{Edges, Path, stay, step}
 use Rattle.walks.proofs.Paths.{last-edge}
 use Rattle.search_laws.proofs.Graphs.{Arcs, outs-in, ins-in}
 use Rattle.build_laws.proofs.Contraction.{contraction-keeps}
-use Rattle.build_laws.proofs.Levels.{level-of, with-level, rank-of, Later, GraphOk, LevelOk, level-ok, level-more, contracted-ok}
-
-module _ (c : BuildCall) where
-  -- levels whose entries the tables hold
-  pub record Fit (ls : List Level) : Type 0 where
-    pub fwd : length (raws forward ls) ≤ room (c .lent .forward)
-    pub bwd : length (raws backward ls) ≤ room (c .lent .backward)
-
-  tables-held : (ls ks : List Level) → in-tables (room (c .lent .forward)) (room (c .lent .backward)) ls ≡ went ks → (ks ≡ ls) × Fit ls
-  unfolding in-tables
-  tables-held ls ks e =
-      on-test (leb (length (raws forward ls)) (room (c .lent .forward)) && leb (length (raws backward ls)) (room (c .lent .backward)))
-      (λ t.
-      let b = and-both _ _ t in (
-        sym (went-same (rw (t, in-tables) at e)),
-        record { fwd = leb-true _ _ (b .0); bwd = leb-true _ _ (b .1) },
-      ))
-      (λ t. absurd (refused-not-went (rw (t, in-tables) at e)))
-
-  -- A rank's step that went.
-  pub record Stepped (v : ℕ) (b k : Building) : Type 0 where
-    pub levels : k .levels ≡ with-level (b .levels) v (b .graph)
-    pub contracts : contract-node (c .pool) (c .limit) v (b .graph) ≡ went (k .graph)
-    pub fit : Fit (k .levels)
-
-  pub rank-stepped : (v : ℕ) (b k : Building) → rank-step c v b ≡ went k → Stepped v b k
-  unfolding rank-step
-  rank-stepped v b k e =
-      let s = both-went (in-tables (room (c .lent .forward)) (room (c .lent .backward)) (with-level (b .levels) v (b .graph))) _ k e in
-      let held = tables-held (with-level (b .levels) v (b .graph)) (s .0) (s .1) in
-      let t = both-went (contract-node (c .pool) (c .limit) v (b .graph)) _ k (s .2) in
-      let same = sym (went-same (t .2)) in
-      let levels = ap (λ x. x .levels) same ∙ held .0 in
-      record {
-        levels = levels;
-        contracts = t .1 ∙ ap went (sym (ap (λ x. x .graph) same));
-        fit = rw levels (held .1);
-      }
+use Rattle.build_laws.proofs.Levels.{rank-of, Later, GraphOk, LevelOk, level-ok, level-more, contracted-ok}
 
 -- the levels' edges, by side
 abbrev pub LevelEdges : List Level → Side → Edges
@@ -222,9 +183,3 @@ module _ (c : BuildCall) (ls : List Link) (d : ℕ) (differ : Differ (c .order) 
       )
 
 -- what the tables held at the last rank they hold at the end
-pub levels-fit : (c : BuildCall) (vs : List ℕ) (b k : Building) → rank-steps c vs b ≡ went k → Fit c (b .levels) → Fit c (k .levels)
-unfolding rank-steps
-levels-fit c [] b k e f = rw (← (went-same e)) f
-levels-fit c (v ∷ vs) b k e f =
-    let s = both-went (rank-step c v b) _ k e in
-    levels-fit c vs (s .0) k (s .2) (rank-stepped c v b (s .0) (s .1) .fit)

@@ -21,14 +21,16 @@ use Rattle.rules.proofs.Steps.{both-went}
 use Rattle.rules.proofs.Members.{in-map, map-in, weight-in}
 use Rattle.rules.proofs.Positions.{position-below}
 use Rattle.rules.proofs.Pigeonhole.{every-below}
+use Rattle.rules.proofs.Ascending.{Before, ascending-before}
+use Rattle.rules.proofs.Ranks.{Fit, levels-fit}
+use Rattle.rules.specs.Accepted.{AcceptedBuild}
 use Rattle.walks.specs.Paths.{Path}
 use Rattle.walks.specs.Walks.{Linked}
 use Rattle.walks.proofs.Paths.{Lighter, lighter-path}
 use Rattle.search_laws.proofs.Graphs.{Arcs}
 use Rattle.build_laws.proofs.Contraction.{pool-held}
 use Rattle.build_laws.proofs.Levels.{rank-of, GraphOk}
-use Rattle.build_laws.proofs.Runs.{RunOk, Fit, levels-fit, LevelUpDown, up-down}
-use Rattle.build_laws.proofs.Accepted.{AcceptedBuild, Before, ascending-before}
+use Rattle.build_laws.proofs.Runs.{RunOk, LevelUpDown, up-down}
 
 -- ascending links have no ends in common
 links-apart : (ls : List Link) → ascending ls ≡ true → Apart (map link-arc ls)

@@ -1,14 +1,14 @@
 -- What is laid leaves the columns as long as they were, and as even.
-use mathlib.Core.Path.{_≡_, refl, sym, _∙_, ap}
+use mathlib.Core.Path.{_≡_, refl, sym, _∙_}
 use mathlib.Core.List.{List, map}
-use Prim.Native.Nat.{ℕ, _+_, _*_, _≤_, _<_}
+use Prim.Native.Nat.{ℕ, _≤_}
 use native.Mathlib.Omega.{arith}
 use lib.ListN.{length, length-map}
 use Rattle.rules.specs.Lists.{over}
-use Rattle.rules.specs.Columns.{Side, forward, backward, Table, EquallyLong, room}
+use Rattle.rules.specs.Columns.{Side, Table, EquallyLong, room}
 use Rattle.rules.specs.Build.{Level, Raw, raws}
 use Rattle.rules.proofs.Prefixes.{over-length}
-use Rattle.entries.specs.Laid.{Part, part-of, Even, laid-part, four-over, begun-of}
+use Rattle.entries.specs.Laid.{part-of, Even, laid-part, four-over, begun-of}
 use Rattle.entries.proofs.Laying.{begun-count}
 
 module _ (s : Side) (ls : List Level) (t : Table) (equal : EquallyLong t) (within : length (raws s ls) ≤ room t) where

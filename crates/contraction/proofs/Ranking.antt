@@ -1,15 +1,13 @@
 -- One rank.
-use mathlib.Core.Path.{_≡_, refl, sym, _∙_, ap, ap₂}
-use mathlib.Core.Bool.{Bool, true, false, _&&_}
+use mathlib.Core.Path.{_≡_, refl, sym, _∙_, ap}
+use mathlib.Core.Bool.{_&&_}
 use mathlib.Core.List.{List, [], _∷_, _++_, map, List·Memᴰ·head, Memᴰ·append-right}
-use Prim.Native.Nat.{ℕ, suc, _+_, _*_, _-_, _^_, _≤_, _<_}
+use Prim.Native.Nat.{ℕ, _+_, _*_, _-_, _^_, _≤_, _<_}
 use native.Mathlib.Omega.{arith}
-use native.Mathlib.Numerals.{add-one}
-use lib.Dec.{leb}
 use lib.ListN.{length, getD, length-append, length-map}
 use borrow.Author.Tests.{le-leb, lt-leb}
 use Rattle.rules.specs.Numbers.{invalid}
-use Rattle.rules.specs.Lists.{In, keep, flat-map}
+use Rattle.rules.specs.Lists.{In, keep}
 use Rattle.rules.specs.Columns.{Side, forward, backward, linkList, room}
 use Rattle.rules.specs.Refusals.{BuildCall}
 use Rattle.rules.specs.Graph.{Arc, outs, ins}
@@ -17,12 +15,11 @@ use Rattle.rules.specs.Build.{Step, went, refused, and-then, in-tables, contrac
 use Rattle.rules.proofs.Lists.{keep-length}
 use Rattle.rules.proofs.Prefixes.{flat-at-most}
 use Rattle.rules.proofs.Ranges.{distinct-decides}
-use Rattle.rules.proofs.Cases.{on-test}
-use Rattle.build_laws.proofs.Levels.{level-of, with-level, LevelOk}
+use Rattle.rules.proofs.Ranks.{level-of, with-level}
 use Rattle.build_laws.proofs.Runs.{next-inside}
 use Rattle.build_laws.proofs.Enough.{level-short}
 use Rattle.lists.specs.Memory.{memory, first, ends-at, touches}
-use Rattle.lists.specs.Walks.{Walk, Reads}
+use Rattle.lists.specs.Walks.{Walk}
 use Rattle.lists.proofs.Walks.{first-out}
 use Rattle.graph.specs.Stands.{Stands}
 use Rattle.graph.proofs.Reading.{own-walk, outs-walk, own-arcs, reads-outs, reads-ins}
@@ -30,14 +27,13 @@ use Rattle.search.specs.Searching.{Lent, lent}
 use Rattle.node_contractor.specs.declared.Work.{Work}
 use Rattle.node_contractor.specs.declared.Contracted.{Contracted}
 use Rattle.node_contractor.specs.declared.Contracted.the-variants.{Went as Contracted·Went, Refused as Contracted·Refused}
-use Rattle.node_contractor.specs.Promises.{Contractible, Done, Does, Contracts}
-use Rattle.entries.specs.Laid.{side-of, Part, part-of, laid-part}
+use Rattle.node_contractor.specs.Promises.{Contractible, Contracts}
+use Rattle.entries.specs.Laid.{side-of, part-of, laid-part}
 use Rattle.entries.specs.Promises.{Layable, Lays}
 use Rattle.entries.proofs.Laying.{raws-more, level-size}
-use Rattle.contraction.specs.declared.Ranked.{Ranked}
 use Rattle.contraction.specs.declared.Ranked.the-variants.{Went, Refused}
-use Rattle.contraction.specs.Ranks.{Given, call, Parts, parts, laid-parts, Counted, At}
-use Rattle.contraction.specs.Promises.{Accepted, Run, Came, Stepping}
+use Rattle.contraction.specs.Ranks.{Given, call, Parts, parts, laid-parts, At}
+use Rattle.contraction.specs.Promises.{Came, Stepping}
 use Rattle.contraction.proofs.Laid.{laid-long, laid-even, laid-starts}
 
 -- What a step came to.

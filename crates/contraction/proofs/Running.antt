@@ -1,20 +1,20 @@
 -- Over the ranks, from the links' graph on.
 use mathlib.Core.Path.{_≡_, refl, sym, _∙_, ap}
 use mathlib.Core.List.{List, [], _∷_}
-use Prim.Native.Nat.{ℕ, suc, _+_, _*_, _≤_, _<_}
+use Prim.Native.Nat.{ℕ, suc, _+_, _≤_, _<_}
 use native.Mathlib.Omega.{arith}
 use native.Mathlib.Numerals.{add-one}
 use borrow.Author.Tests.{le-leb, lt-leb}
 use lib.ListN.{length, getD, drop, length-append, drop-of-length-le}
 use lib.Seq.{drop-cons}
 use Rattle.rules.specs.Lists.{over}
-use Rattle.rules.specs.Columns.{Links, linkList, Hierarchy, forward, backward}
+use Rattle.rules.specs.Columns.{linkList, forward, backward}
 use Rattle.rules.specs.Refusals.{BuildCall}
-use Rattle.rules.specs.Build.{Step, went, refused, and-then, in-pool, from-links, graph-of, raws, Building, rank-step, rank-steps, contraction}
+use Rattle.rules.specs.Build.{Step, refused, and-then, in-pool, from-links, graph-of, raws, Building, rank-step, rank-steps, contraction}
 use Rattle.rules.specs.Lists.{flat-map}
 use Rattle.rules.proofs.Ranges.{distinct-decides}
-use Rattle.build_laws.proofs.Levels.{level-of}
-use Rattle.build_laws.proofs.Runs.{rank-stepped, step-ok}
+use Rattle.rules.proofs.Ranks.{rank-stepped, level-of}
+use Rattle.build_laws.proofs.Runs.{step-ok}
 use Rattle.build_laws.proofs.Starts.{first-run}
 use Rattle.lists.specs.Memory.{memory}
 use Rattle.graph.specs.declared.preparation_graph.Pool.{Pool}
@@ -27,9 +27,9 @@ use Rattle.node_contractor.specs.declared.Work.{Work}
 use Rattle.entries.specs.Laid.{laid-part, four-over, begun-of, begun}
 use Rattle.contraction.specs.declared.Ranked.{Ranked}
 use Rattle.contraction.specs.declared.Ranked.the-variants.{Went, Refused}
-use Rattle.contraction.specs.Ranks.{Given, given, call, Parts, parts-of, laid-parts, At}
+use Rattle.contraction.specs.Ranks.{Given, call, Parts, laid-parts, At}
 use Rattle.contraction.specs.Promises.{Accepted, Run, Came, Stepping, first, Starting, Accepting}
-use Rattle.contraction.proofs.Ranking.{came, stopped}
+use Rattle.contraction.proofs.Ranking.{came}
 
 -- every slice is as long as it was
 pub record SameLengths (t : Parts) (m : Lent) (t₀ : Parts) (m₀ : Lent) : Type 0 where

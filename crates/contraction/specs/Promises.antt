@@ -2,15 +2,15 @@
 -- asks that there are some, and promises its answer for each of them.
 use mathlib.Core.List.{List, [], _∷_}
 use mathlib.Core.Path.{_≡_}
-use Prim.Native.Nat.{ℕ, suc, _+_, _*_, _^_, _≤_, _<_}
+use Prim.Native.Nat.{ℕ, _+_, _*_, _≤_}
 use lib.ListN.{length}
-use Rattle.rules.specs.Numbers.{maxLinkWeight, invalid}
+use Rattle.rules.specs.Numbers.{maxLinkWeight}
 use Rattle.rules.specs.Lists.{In}
 use Rattle.rules.specs.Columns.{Links, linkList, Hierarchy}
 use Rattle.rules.specs.Refusals.{BuildCall}
 use Rattle.rules.specs.Build.{Step, went, refused, Building, rank-step, rank-steps, contraction, graph-of}
 use Rattle.rules.proofs.Ranges.{distinct-decides}
-use Rattle.build_laws.proofs.Accepted.{AcceptedBuild}
+use Rattle.rules.specs.Accepted.{AcceptedBuild}
 use Rattle.build_laws.proofs.Runs.{RunOk}
 use Rattle.input_graph.specs.Given.{Between}
 use Rattle.lists.specs.Memory.{memory}

@@ -1,10 +1,10 @@
 -- A rank is laid after those that are: columns written onward from where they end.
 use mathlib.Core.Path.{_≡_, refl, sym, _∙_, ap, ap₂}
-use mathlib.Core.List.{List, [], _∷_, _++_, map, map-append, append-nil, append-assoc}
-use Prim.Native.Nat.{ℕ, _+_, _-_, _<_, _≤_}
+use mathlib.Core.List.{List, [], _∷_, _++_, map, map-append, append-nil}
+use Prim.Native.Nat.{ℕ, _+_, _-_, _<_}
 use native.Mathlib.Omega.{arith}
-use native.Mathlib.Nat.{add-zero, add-assoc, zero-add}
-use lib.ListN.{length, set, take, drop, length-append, length-map, length-take, length-drop, drop-of-length-le}
+use native.Mathlib.Nat.{add-zero, zero-add}
+use lib.ListN.{length, set, take, drop, length-append, length-map, length-drop, drop-of-length-le}
 use lib.Seq.{take-all}
 use Rattle.rules.specs.Lists.{over, flat-map}
 use Rattle.rules.specs.Columns.{Side}
@@ -12,7 +12,7 @@ use Rattle.rules.specs.Graph.{Arc}
 use Rattle.rules.specs.Build.{Level, Raw, raw, arcs-of, level-raws, raws}
 use Rattle.rules.proofs.Prefixes.{over-next, over-onward, flat-map-append}
 use Rattle.lists.specs.Memory.{Memory}
-use Rattle.entries.specs.Laid.{side-of, Four, four, Part, part, Even, four-over, begun, begun-of, laid-part}
+use Rattle.entries.specs.Laid.{side-of, four, Part, part, four-over, begun, begun-of, laid-part}
 use Rattle.entries.specs.Promises.{Writable, Layable}
 
 -- a part of a slice onward from a place, as it is lent and as it comes back

@@ -1,18 +1,18 @@
 -- A list is written down, arc by arc.
 use mathlib.Core.Path.{_≡_, refl, sym, _∙_, ap}
 use mathlib.Core.List.{List, [], _∷_, _++_, map, map-append, append-assoc, append-nil}
-use Prim.Native.Nat.{ℕ, zero, suc, _+_, _*_, _-_, _<_, _≤_}
+use Prim.Native.Nat.{ℕ, zero, suc, _+_, _*_, _-_, _<_}
 use native.Mathlib.Omega.{arith}
 use lib.ListN.{length, getD, set, length-append, length-map}
 use Rattle.rules.specs.Numbers.{invalid}
 use Rattle.rules.specs.Lists.{over}
 use Rattle.rules.specs.Graph.{Arc}
-use Rattle.rules.specs.Build.{Raw, raw, neighbour-of}
+use Rattle.rules.specs.Build.{raw, neighbour-of}
 use Rattle.rules.proofs.Prefixes.{column-next}
 use Rattle.lists.specs.Memory.{Memory, memory, arc-at}
 use Rattle.lists.specs.Walks.{column, Walk, Reads}
 use Rattle.lists.proofs.Walks.{walk-on, walk-end, reads-on, reads-end}
-use Rattle.entries.specs.Laid.{side-of, Four, four, four-over, Even}
+use Rattle.entries.specs.Laid.{side-of, Four, four, four-over}
 use Rattle.entries.specs.Promises.{Writable}
 
 -- Counting along a walk.

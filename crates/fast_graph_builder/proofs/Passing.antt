@@ -17,7 +17,8 @@ use Rattle.rules.specs.Refusals.{Row, row, first-met, short, build-scratch, Bui
 use Rattle.rules.specs.Build.{Step, went, refused, Building, finish-contraction, built, unless-refused, build, contraction}
 use Rattle.rules.proofs.Rows.{not-met}
 use Rattle.rules.proofs.Cases.{neither}
-use Rattle.build_laws.proofs.Accepted.{AcceptedBuild, accepted-build}
+use Rattle.rules.proofs.Accepted.{accepted-build}
+use Rattle.rules.specs.Accepted.{AcceptedBuild}
 use Rattle.build_laws.proofs.Pools.{contraction-same}
 use Rattle.input_graph.specs.Given.{links, Between}
 use Rattle.input_graph.proofs.Accepted.{accepted-between}

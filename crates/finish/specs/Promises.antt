@@ -9,9 +9,9 @@ use Rattle.rules.specs.Columns.{Table, Hierarchy, Side, forward, backward, tabl
 use Rattle.rules.specs.TableRules.{tail-of, head-of}
 use Rattle.rules.specs.Refusals.{BuildCall}
 use Rattle.rules.specs.Build.{went, Raw, raws, Building, open-entry, finish, finished, starts-of, ranks-of, contraction}
-use Rattle.build_laws.proofs.Accepted.{AcceptedBuild}
 use Rattle.entries.specs.Laid.{begun-of}
 use Rattle.finish.specs.declared.Numbers.{Numbers}
+use Rattle.rules.specs.Accepted.{AcceptedBuild}
 
 -- the starts of rank r and of the next can be read, and the rank's entries
 pub record Seekable (starts : List ℕ) (places r : ℕ) : Type 0 where

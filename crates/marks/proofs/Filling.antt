@@ -1,8 +1,7 @@
 -- Places are filled one after the other, and so are tables.
-use mathlib.Core.Path.{_≡_, refl, sym, _∙_, ap}
-use mathlib.Core.List.{List, [], _∷_, _++_, append-nil}
-use Prim.Native.Nat.{ℕ, suc, _+_, _≤_, _<_}
-use native.Mathlib.Omega.{arith}
+use mathlib.Core.Path.{_≡_, refl, _∙_, ap}
+use mathlib.Core.List.{List, _++_, append-nil}
+use Prim.Native.Nat.{ℕ, _+_, _<_}
 use lib.ListN.{length, set, drop, replicate, length-replicate, replicate-append-replicate}
 use lib.Seq.{drop-length}
 use Rattle.rules.specs.Numbers.{invalid, noWeight}

@@ -8,7 +8,7 @@ use lib.ListN.{length, getD, drop, length-drop}
 use Rattle.rules.specs.Numbers.{invalid}
 use Rattle.rules.specs.Lists.{In, keep}
 use Rattle.rules.specs.Graph.{Arc, outs, ins, Loopless, disconnect}
-use Rattle.rules.specs.Search.{Search, init}
+use Rattle.rules.specs.Search.{init}
 use Rattle.rules.specs.Build.{Step, went, refused, and-then, Contracting, shortcut, pairs-of, handle-shortcuts, contract-node}
 use Rattle.search_laws.proofs.Graphs.{in-outs, in-ins, in-disconnected, in-added}
 use Rattle.build_laws.proofs.Contraction.{shortcuts-keep}
@@ -20,14 +20,14 @@ use Rattle.graph.specs.Stands.{Stands, Unmoved}
 use Rattle.graph.proofs.Staying.{unmoved-refl, unmoved-trans}
 use Rattle.graph.proofs.Along.{Along, along-first, along-next, along-stays}
 use Rattle.search.specs.declared.witness_search.WitnessSearch.{WitnessSearch}
-use Rattle.search.specs.Searching.{world, Lent, lent}
+use Rattle.search.specs.Searching.{Lent, lent}
 use Rattle.search.specs.Promises.{Starts}
-use Rattle.search.proofs.Laws.{ready-stamped, starting, started, still}
+use Rattle.search.proofs.Laws.{ready-stamped, starting, started}
 use Rattle.search.proofs.Walks.{Left, left-along, left-fit, few-ins}
 use Rattle.node_contractor.specs.declared.Work.{Work}
 use Rattle.node_contractor.specs.declared.Contracted.{Contracted}
 use Rattle.node_contractor.specs.declared.Contracted.the-variants.{Went, Refused}
-use Rattle.node_contractor.specs.Promises.{contracting, Came, Steps, Leaving, Leaves, Rests, Coming, Passed, Passes, Comes, Contractible, Done, Does}
+use Rattle.node_contractor.specs.Promises.{contracting, Leaving, Leaves, Rests, Coming, Passed, Passes, Comes, Contractible, Done, Does}
 use Rattle.node_contractor.proofs.Pairs.{over-standing}
 use Rattle.node_contractor.proofs.OutArcs.{left-list, left-none, left-steps}
 

@@ -1,12 +1,12 @@
 -- Over the out-arcs of v, for one in-arc: what is left, and that with what was done it comes to the whole.
 use mathlib.Core.Path.{_≡_, refl, sym, _∙_, ap}
 use mathlib.Core.List.{List, [], _∷_, List·Memᴰ·head, cons-eq-cons}
-use Prim.Native.Nat.{ℕ, zero, suc, _+_, _*_, _≤_, _<_}
+use Prim.Native.Nat.{ℕ, zero, suc, _+_, _*_, _<_}
 use native.Mathlib.Omega.{arith}
 use lib.ListN.{length, getD, drop}
 use Rattle.rules.specs.Numbers.{invalid}
 use Rattle.rules.specs.Lists.{In, keep}
-use Rattle.rules.specs.Graph.{Arc, leaves, outs}
+use Rattle.rules.specs.Graph.{Arc, outs}
 use Rattle.rules.specs.Search.{Search}
 use Rattle.rules.specs.Build.{Step, went, refused, and-then, Contracting, pair, pairs-of}
 use Rattle.lists.specs.Memory.{Memory, memory, arc-at, touches}
@@ -16,7 +16,7 @@ use Rattle.graph.specs.declared.preparation_graph.Pool.{Pool}
 use Rattle.graph.specs.Stands.{Stands, Unmoved}
 use Rattle.graph.proofs.Staying.{unmoved-refl, unmoved-trans}
 use Rattle.graph.proofs.Along.{Along, along-first, along-next, along-stays}
-use Rattle.search.specs.Searching.{World, world, Lent, lent, Standing}
+use Rattle.search.specs.Searching.{World, Lent, lent, Standing}
 use Rattle.search.proofs.Walks.{Left, left-along, left-fit}
 use Rattle.node_contractor.specs.declared.Work.{Work}
 use Rattle.node_contractor.specs.declared.Contracted.{Contracted}

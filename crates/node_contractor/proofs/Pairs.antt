@@ -1,5 +1,5 @@
 -- One pair, and what a step comes to.
-use mathlib.Core.Path.{_≡_, refl, sym, _∙_}
+use mathlib.Core.Path.{_≡_, refl, _∙_}
 use mathlib.Core.List.{List}
 use Prim.Native.Nat.{ℕ, _+_, _≤_, _<_}
 use native.Mathlib.Omega.{arith}
@@ -24,7 +24,7 @@ use Rattle.search.proofs.Laws.{with-arc, standing-added, ready-added}
 use Rattle.node_contractor.specs.declared.Work.{Work}
 use Rattle.node_contractor.specs.declared.Contracted.{Contracted}
 use Rattle.node_contractor.specs.declared.Contracted.the-variants.{Went, Refused}
-use Rattle.node_contractor.specs.Promises.{contracting, pair-of, Midst, Came, Steps, Pairing}
+use Rattle.node_contractor.specs.Promises.{contracting, pair-of, Came, Steps, Pairing}
 
 -- The definition, by what the tests said.
 module _ (pool limit v tail head sum : ℕ) (c : Contracting) where

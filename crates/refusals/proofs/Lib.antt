@@ -1,3 +1,2 @@
 -- What the proofs share.
-pub mod Numbers
 pub mod Tests

@@ -1,40 +1,22 @@
 -- The definitions' tests, by what the code's said.
 use mathlib.Core.Path.{_≡_, refl, sym, _∙_, ap}
-use mathlib.Core.Bool.{Bool, true, false, not, _&&_, _||_}
+use mathlib.Core.Bool.{Bool, true, false, not}
 use mathlib.Core.List.{List, [], _∷_, _++_}
 use Prim.Native.Nat.{ℕ, suc, _+_, _*_, _≤_, _<_}
 use native.Mathlib.Omega.{arith}
 use native.Mathlib.Numerals.{add-one}
 use lib.Dec.{eqb, ltb}
-use lib.ListN.{length, getD}
-use borrow.Author.Tests.{eq-eqb, ne-eqb, lt-ltb, le-ltb, ltb-true, ltb-false}
+use lib.ListN.{length, take}
+use lib.Seq.{take-all}
+use borrow.Author.Tests.{eq-eqb, ne-eqb, lt-ltb, le-ltb, ltb-false}
 use Rattle.rules.specs.Numbers.{maxNodes}
-use Rattle.rules.specs.Lists.{In, all, distinct, Decides}
+use Rattle.rules.specs.Lists.{all}
 use Rattle.rules.specs.Columns.{Links}
 use Rattle.rules.specs.Refusals.{Row, row, first-met, short, build-scratch, graph-rows, graph-refusal}
-use Rattle.rules.proofs.Decides.{and-both, both-and, denied}
-use Rattle.rules.proofs.Cases.{on-test, not-both}
-use Rattle.rules.proofs.Members.{all-each, getD-in, in-getD}
-use Rattle.rules.proofs.Ranges.{distinct-decides}
+use Rattle.rules.proofs.Cases.{on-test}
 use Rattle.rules.proofs.Rows.{not-met}
-use Rattle.refusals.specs.Measures.{EachOnce, uneven-by, lent-short-by, order-test}
-
-each-all : (p : ℕ → Bool) (xs : List ℕ) → ((k : ℕ) → k < length xs → p (getD xs k 0) ≡ true) → all p xs ≡ true
-unfolding all
-each-all p [] h = refl
-each-all p (x ∷ xs) h = both-and (p x) (all p xs) (h 0 (omega arith)) (each-all p xs (λ k l. h (suc k) (omega arith)))
-
--- the test of row 8 decides the same
-pub order-decides : (n : ℕ) (xs : List ℕ) → Decides (all (λ v. ltb v n) xs && distinct xs) (EachOnce n xs)
-order-decides n xs = (
-  λ e.
-      let b = and-both (all (λ v. ltb v n) xs) (distinct xs) e in
-      record {
-        below = λ k h. ltb-true (getD xs k 0) n (all-each (λ v. ltb v n) xs (b .0) (getD xs k 0) (getD-in xs k 0 h));
-        apart = distinct-decides xs 0 .0 (b .1);
-      },
-  λ p. both-and _ _ (each-all (λ v. ltb v n) xs (λ k h. lt-ltb (getD xs k 0) n (p .below k h))) (distinct-decides xs 0 .1 (p .apart)),
-)
+use Rattle.permutation.specs.Once.{each-once}
+use Rattle.refusals.specs.Measures.{uneven-by, lent-short-by, order-test}
 
 -- Rows one after the other.
 pub later : (n : ℕ) (b : Bool) (rows rest : List Row) → first-met (row (suc n) b ∷ rows) ≡ 0 → (first-met rows ≡ 0 → first-met (rows ++ rest) ≡ first-met rest) →
@@ -63,17 +45,15 @@ module _ (n : ℕ) (order : List ℕ) where
   unfolding order-test first-met
   wrong-length h = rw (ne-eqb (length order) n h, first-met)
 
-  pub wrong-numbers : length order ≡ n → (EachOnce n order → ⊥) → first-met (order-test n order) ≡ 8
-  unfolding order-test first-met
-  wrong-numbers e h =
-      let off : (all (λ v. ltb v n) order && distinct order) ≡ false =
-      on-test (all (λ v. ltb v n) order && distinct order) (λ t. absurd (h (order-decides n order .0 t))) (λ t. t)
-      in
-      rw (eq-eqb (length order) n e, off, first-met)
+  -- an order of the right length is looked at whole
+  module _ (long : length order ≡ n) where
+    pub wrong-numbers : each-once n (take n order) ≡ false → first-met (order-test n order) ≡ 8
+    unfolding order-test first-met each-once
+    wrong-numbers off = rw (eq-eqb (length order) n long, rw (take-all n order (omega arith)) at off, first-met)
 
-  pub right-order : length order ≡ n → EachOnce n order → first-met (order-test n order) ≡ 0
-  unfolding order-test first-met
-  right-order e p = rw (eq-eqb (length order) n e, order-decides n order .1 p, first-met)
+    pub right-order : each-once n (take n order) ≡ true → first-met (order-test n order) ≡ 0
+    unfolding order-test first-met each-once
+    right-order on = rw (eq-eqb (length order) n long, rw (take-all n order (omega arith)) at on, first-met)
 
 -- row 9, of a table
 module _ (n starts bases neighbours weights ins outs : ℕ) where

@@ -1,19 +1,13 @@
 -- What the tests decide, by lengths where only lengths matter.
 use mathlib.Core.Bool.{Bool, not, _&&_, _||_}
-use mathlib.Core.List.{List, _++_}
+use mathlib.Core.List.{List, [], _∷_, _++_}
 use mathlib.Core.Path.{_≡_}
-use Prim.Native.Nat.{ℕ, suc, _<_}
+use Prim.Native.Nat.{ℕ, suc}
 use lib.Dec.{eqb, ltb}
-use lib.ListN.{length, getD}
+use lib.ListN.{length}
 use Rattle.rules.specs.Lists.{all, distinct}
 use Rattle.rules.specs.Columns.{Links}
 use Rattle.rules.specs.Refusals.{Row, row, first-met, short, build-scratch, graph-rows}
-use mathlib.Core.List.{[], _∷_}
-
--- "names a node not below the count, or one twice": neither
-pub record EachOnce (n : ℕ) (xs : List ℕ) : Type 0 where
-  pub below : (k : ℕ) → k < length xs → getD xs k 0 < n
-  pub apart : (j k : ℕ) → j < length xs → k < length xs → getD xs j 0 ≡ getD xs k 0 → j ≡ k
 
 -- `table-short` by lengths
 unfoldable pub uneven-by : (n starts bases neighbours weights ins outs : ℕ) → Bool

@@ -3,32 +3,10 @@ ghost use mathlib.Core.Bool.{Bool, _||_};
 ghost use mathlib.Core.List.{List, [], _∷_};
 ghost use mathlib.Core.Path.{_≡_};
 ghost use Prim.Native.Nat.{ℕ, _≤_};
-ghost use Rattle.rules.specs.Lists.{Decides};
 ghost use Rattle.rules.specs.Columns.{Hierarchy};
 ghost use Rattle.rules.specs.Refusals.{short, build-scratch};
 ghost use Rattle.input_graph.specs.Given.{links};
-ghost use Rattle.refusals.specs.Measures.{EachOnce, uneven-by, lent-short-by, Refuses};
-
-// Whether each number is below n, which is at most 1,024, and none stands twice.
-pub fn each_once(n: usize, numbers: &[u32]) -> bool
-    requires { ⌜ n ≤ 1024 ⌝ }
-    ensures { λ r. ⌜ Decides r (EachOnce n (now (numbers .entry))) ⌝ }
-{
-    let mut seen = [0u8; 1024];
-    let mut i = 0;
-    while i < numbers.len() {
-        let v = numbers[i] as usize;
-        if n <= v {
-            return false;
-        }
-        if seen[v] != 0 {
-            return false;
-        }
-        seen[v] = 1;
-        i += 1;
-    }
-    true
-}
+ghost use Rattle.refusals.specs.Measures.{uneven-by, lent-short-by, Refuses};
 
 // Whether a table of these lengths has too few starts for n nodes, or columns of unequal length.
 fn uneven(
@@ -154,7 +132,7 @@ pub fn refusal(n: usize, tails: &[u32], heads: &[u32], weights: &[u32], order: &
     if order.len() != n {
         return 7;
     }
-    if each_once(n, order) {
+    if permutation::each_once(n, order) {
         return 0;
     }
     8

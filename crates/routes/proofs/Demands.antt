@@ -1,31 +1,31 @@
 -- The page of demands, proved.
 use mathlib.Core.Path.{_≡_, refl, sym, _∙_, ap}
-use mathlib.Core.List.{List, [], _∷_, _++_}
-use Prim.Native.Nat.{ℕ, zero, suc, _+_, _≤_}
+use mathlib.Core.List.{List}
+use Prim.Native.Nat.{ℕ, zero, suc, _+_, _*_, _≤_}
 use native.Mathlib.Omega.{arith}
 use native.Mathlib.Nat.{add-suc}
-use lib.ListN.{length}
-use Rattle.rules.specs.Columns.{Hierarchy, Side, forward, backward}
+use lib.ListN.{length, getD}
+use Rattle.rules.specs.Columns.{Hierarchy, Side, forward, backward, table, Ends}
 use Rattle.rules.specs.TableRules.{TableRules}
-use Rattle.rules.specs.Refusals.{Row, first-met, BuildCall, graph-rows, order-rows, build-refusal}
+use Rattle.rules.specs.Refusals.{BuildCall, build-refusal, QueryCall, build-scratch, query-scratch}
 use Rattle.rules.specs.Graph.{Arc}
 use Rattle.rules.specs.Search.{Search, run, search-fuel}
-use Rattle.rules.specs.Build.{Step, went, refused, Building, contraction, built, unless-refused, build}
-use Rattle.rules.specs.Query.{End, endList, Half, entered}
+use Rattle.rules.specs.Build.{refused, contraction, build}
+use Rattle.rules.specs.Query.{End, endList, Half, entered, rounds}
 use Rattle.rules.specs.Program.{digits, lines}
-use Rattle.rules.proofs.Cases.{on-test}
+use Rattle.rules.proofs.Accepted.{accepted-build}
+use Rattle.rules.proofs.Outcomes.{early, late, whole, ended}
 use Rattle.walks.proofs.Cut.{cut-agrees}
 use Rattle.search_laws.specs.Paid.{Paid}
 use Rattle.search_laws.proofs.Bounds.{paid-heap, init-paid, added-paid, search-paid, run-enough, search-fuel-enough}
-use Rattle.build_laws.proofs.Accepted.{accepted-build}
 use Rattle.build_laws.proofs.Refused.{build-half}
 use Rattle.build_laws.proofs.Enough.{never-10, never-11}
 use Rattle.build_laws.proofs.Laws.{build-passes, cut-passes, ranks-inverse, no-neighbour-twice}
 use Rattle.query_laws.proofs.Unpacking.{unpacked-shortcut, unpacked-plain}
 use Rattle.query_laws.proofs.State.{Sound}
-use Rattle.query_laws.proofs.Turns.{rounds-keep}
-use Rattle.query_laws.proofs.Accepted.{accepted, entered-both, searched-both, searched-empty}
-use Rattle.query_laws.proofs.Bounds.{heap-room}
+use Rattle.query_laws.proofs.Turns.{Both, rounds-keep}
+use Rattle.query_laws.proofs.Accepted.{EndsRules, Accepted, accepted, entered-both, searched-both, searched-empty}
+use Rattle.query_laws.proofs.Bounds.{heap-room, heap-fits}
 use Rattle.query_laws.proofs.Chains.{climb-enough, root-enough}
 use Rattle.routes.specs.Demands.{Searched, begun, asked, added, Small, Demands}
 use Rattle.routes.proofs.ProgramFuel.{digits-enough, lines-enough}
@@ -36,34 +36,14 @@ steady : {A : Type 0} (f : ℕ → A) (n : ℕ) → ((j : ℕ) → n ≤ j → f
 steady f n same zero = ap f (omega arith)
 steady f n same (suc k) = ap f (add-suc n k) ∙ sym (same (n + k) (omega arith)) ∙ steady f n same k
 
--- rows of numbers up to k
-abbrev UpTo : ℕ → List Row → Type 0
-UpTo k [] = Unit {0}
-UpTo k (r ∷ rs) = (r .number ≤ k) × UpTo k rs
-
-first-up-to : (k : ℕ) (rs : List Row) → UpTo k rs → first-met rs ≤ k
-unfolding first-met
-first-up-to k [] h = omega arith
-first-up-to k (r ∷ rs) h =
-    on-test (r .met) (λ t. rw (t, first-met) (h .0)) (λ t. rw (t, first-met) (first-up-to k rs (h .1)))
-
-early : (c : BuildCall) → build-refusal c ≤ 9
-unfolding build-refusal graph-rows order-rows
-early c = first-up-to 9 (graph-rows (c .nodes) (c .links) ++ order-rows c) (omega arith)
-
 -- a number from 10 on is the contraction's
-late : (c : BuildCall) (r : ℕ) → build c .number ≡ r → 10 ≤ r → (build-refusal c ≡ 0) × (contraction c ≡ refused r)
-unfolding build unless-refused built
-late c r e high = go (build-refusal c) refl (contraction c) refl
-  where
-    go : (k : ℕ) → build-refusal c ≡ k → (m : Step Building) → contraction c ≡ m → (build-refusal c ≡ 0) × (contraction c ≡ refused r)
-    go zero p (went b) q =
-        let zero-is : 0 ≡ r = sym (ap (λ x. x .number) (ap (unless-refused c) p ∙ ap (built c) q)) ∙ e in
-        absurd (omega (arith, zero-is))
-    go zero p (refused k) q = (p, q ∙ ap refused (sym (ap (λ x. x .number) (ap (unless-refused c) p ∙ ap (built c) q)) ∙ e))
-    go (suc k) p m q =
-        let number : suc k ≡ r = sym (ap (λ x. x .number) (ap (unless-refused c) p)) ∙ e in
-        absurd (omega (arith, number, early c, p))
+from-contraction : (c : BuildCall) (r : ℕ) → build c .number ≡ r → 10 ≤ r → (build-refusal c ≡ 0) × (contraction c ≡ refused r)
+from-contraction c r e high =
+    elim (ended c) [
+      | early k p a b o ↦ absurd (omega (arith, ap (λ x. x .number) o))
+      | late k p m a b o ↦ (p, m ∙ ap refused (sym (ap (λ x. x .number) o) ∙ e))
+      | whole k p m o ↦ absurd (omega (arith, ap (λ x. x .number) o))
+    ]
 
 searched-paid : (avoid limit a : ℕ) (g : List Arc) (s : Search) → Searched avoid limit a g s → Paid g s
 searched-paid avoid limit a g s (begun h) = init-paid g a
@@ -78,7 +58,26 @@ sound-small n h rules s es ends floor b x few k =
       heap = omega (arith, heap-room n h rules s es floor b x k);
     }
 
+rounds-sound : (q : QueryCall) → Accepted q → (k : ℕ) → Both (q .nodes) (q .hierarchy) (endList (q .sources)) (endList (q .targets)) (rounds (q .hierarchy) k (entered q))
+rounds-sound q a k = rounds-keep (q .nodes) (q .hierarchy) (a .rules) (endList (q .sources)) (endList (q .targets)) k (entered q) (entered-both q a)
+
+-- Heap items of two numbers each, beside the scratch that is asked for them.
+search-heap : (n pool : ℕ) (g : List Arc) (s : Search) → length g ≤ pool → length (s .heap) ≤ suc (length g) → 2 * length (s .heap) ≤ getD (build-scratch n pool) 4 0
+unfolding build-scratch
+search-heap n pool g s fits short = omega arith
+
+heap-place : Side → ℕ
+heap-place forward = 2
+heap-place backward = 3
+
+query-heap : (q : QueryCall) (rules : TableRules (q .nodes) (q .hierarchy)) (s : Side) (e : Ends) → EndsRules (q .nodes) e → (floor b : ℕ) (x : Half) →
+    Sound (q .nodes) (q .hierarchy) s (endList e) floor b x → 2 * length (x .heap) ≤ getD (query-scratch (q .nodes) (q .hierarchy)) (heap-place s) 0
+unfolding query-scratch heap-place table
+query-heap q rules forward e r floor b x k = omega (arith, heap-fits (q .nodes) (q .hierarchy) rules forward e r floor b x k)
+query-heap q rules backward e r floor b x k = omega (arith, heap-fits (q .nodes) (q .hierarchy) rules backward e r floor b x k)
+
 pub demands : Demands
+unfolding heap-place
 demands =
     record {
       third-demand = third-demand;
@@ -89,19 +88,24 @@ demands =
       no-neighbour-twice = λ c b. no-neighbour-twice c (b .weights) (b .number);
       never-10 =
           λ c small room e.
-          let l = late c 10 e (omega arith) in
+          let l = from-contraction c 10 e (omega arith) in
           never-10 c (accepted-build c (l .0)) small room 10 (l .1) refl;
       never-11 =
           λ c small fwd bwd e.
-          let l = late c 11 e (omega arith) in
+          let l = from-contraction c 11 e (omega arith) in
           never-11 c (accepted-build c (l .0)) small fwd bwd 11 (l .1) refl;
-      search-heap = λ avoid limit a g s x. paid-heap g s (searched-paid avoid limit a g s x);
+      search-heap = λ n pool avoid limit a g s x fits. search-heap n pool g s fits (paid-heap g s (searched-paid avoid limit a g s x));
+      query-heap =
+          λ q fine k.
+          let a = accepted q fine in
+          let both = rounds-sound q a k in (
+            query-heap q (a .rules) forward (q .sources) (a .sources) _ _ _ (both .fwd),
+            query-heap q (a .rules) backward (q .targets) (a .targets) _ _ _ (both .bwd),
+          );
       query-small =
           λ q fine k.
           let a = accepted q fine in
-          let both =
-          rounds-keep (q .nodes) (q .hierarchy) (a .rules) (endList (q .sources)) (endList (q .targets)) k (entered q) (entered-both q a)
-          in (
+          let both = rounds-sound q a k in (
             sound-small (q .nodes) (q .hierarchy) (a .rules) forward (endList (q .sources)) _ _ _ _ (a .sources .listed) (both .fwd),
             sound-small (q .nodes) (q .hierarchy) (a .rules) backward (endList (q .targets)) _ _ _ _ (a .targets .listed) (both .bwd),
           );
@@ -128,8 +132,5 @@ demands =
       unpacked-plain = λ h s e. unpacked-plain h s e;
       digits-enough = λ n k. steady (λ j. digits j n) (suc n) (λ j more. digits-enough j n more) k;
       lines-enough = λ at k p bs. steady (λ j. lines j at p bs) (length bs) (λ j more. lines-enough j at p bs more) k;
-      one-build = λ c o p e f. e ∙ sym f;
-      one-check = λ n h o p e f. e ∙ sym f;
-      one-query = λ q o p e f. e ∙ sym f;
       promise = λ c b. build-half c (b .weights) (b .number);
     }

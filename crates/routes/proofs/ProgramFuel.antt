@@ -21,13 +21,20 @@ digits-enough (suc k) n h =
     rw (t, digits)
     (ap (λ ds. ds ++ ((0x30 + (n % 10)) ∷ [])) (digits-enough k (n / 10) (omega (arith, ltb-false n 10 t)))))
 
--- a whole record takes at least a byte
-whole-takes : (bs : List ℕ) → whole bs ≡ true → 1 ≤ record-length (kind-of bs)
+-- a whole record takes at least a byte, and no more than there are
+whole-both : (bs : List ℕ) → whole bs ≡ true → (1 ≤ record-length (kind-of bs)) × (record-length (kind-of bs) ≤ length bs)
 unfolding whole
-whole-takes bs e =
+whole-both bs e =
     let first = eqb (getD bs 0 0) 0x6E && eqb (getD bs 1 0) 0x74 in
     let takes = leb 1 (record-length (kind-of bs)) in
-    leb-true 1 (record-length (kind-of bs)) (and-both first takes (and-both (first && takes) (leb (record-length (kind-of bs)) (length bs)) e .0) .1)
+    let both = and-both (first && takes) (leb (record-length (kind-of bs)) (length bs)) e in
+    (leb-true 1 (record-length (kind-of bs)) (and-both first takes (both .0) .1), leb-true (record-length (kind-of bs)) (length bs) (both .1))
+
+whole-takes : (bs : List ℕ) → whole bs ≡ true → 1 ≤ record-length (kind-of bs)
+whole-takes bs e = whole-both bs e .0
+
+pub whole-fits : (bs : List ℕ) → whole bs ≡ true → record-length (kind-of bs) ≤ length bs
+whole-fits bs e = whole-both bs e .1
 
 pub lines-enough : (k at : ℕ) (p : Phase) (bs : List ℕ) → length bs ≤ k → lines k at p bs ≡ lines (suc k) at p bs
 unfolding lines

@@ -9,13 +9,13 @@ use Rattle.rules.specs.Numbers.{maxWeight, maxLinkWeight, noWeight}
 use Rattle.rules.specs.Lists.{In, distinct}
 use Rattle.rules.specs.Columns.{linkList, Hierarchy, Side, forward, backward, table, entry, rank, room, entries}
 use Rattle.rules.specs.TableRules.{tail-of, used, TableRules}
-use Rattle.rules.specs.Refusals.{BuildCall, QueryCall, check-refusal, query-refusal}
+use Rattle.rules.specs.Refusals.{BuildCall, QueryCall, build-scratch, query-scratch, check-refusal, query-refusal}
 use Rattle.rules.specs.Heap.{Item}
 use Rattle.rules.specs.Graph.{Arc, addOrReduce}
 use Rattle.rules.specs.Search.{Search, init, run, search-fuel, find-max-weight}
-use Rattle.rules.specs.Build.{Built, build}
+use Rattle.rules.specs.Build.{build}
 use Rattle.rules.specs.Unpack.{is-shortcut, unpacked}
-use Rattle.rules.specs.Query.{Half, Answered, entered, rounds, climb, root, searched, query}
+use Rattle.rules.specs.Query.{Half, entered, rounds, climb, root, searched}
 use Rattle.rules.specs.Program.{Phase, digits, lines}
 use Rattle.walks.specs.Promise.{Promise}
 use Rattle.walks.specs.Agreement.{Agree, cut}
@@ -48,11 +48,17 @@ pub record Demands : Type 0 where
   pub cut-tables-agree : (n : ℕ) (h : Hierarchy) → Agree n h (cut n h)
   pub ranks-inverse : (c : BuildCall) → IsBuilt c → (r : ℕ) → r < c .nodes → rank (build c .hierarchy) (getD (c .order) r 0) ≡ r
   pub no-neighbour-twice : (c : BuildCall) → IsBuilt c → (s : Side) (v : ℕ) → v < c .nodes → distinct (map (λ e. e .neighbour) (entries (build c .hierarchy) s v)) ≡ true
-  -- 3. Refusals that cannot come, and what stays in its range at every step.
+  -- 3. Refusals that cannot come, and what stays in its range: of a search after each target, of a query after each round.
+  -- (In the midst of a turn: query_laws/proofs Taken and Bounds.)
   pub never-10 : (c : BuildCall) → ((w : ℕ) → In w (c .links .weights) → w ≤ maxLinkWeight) → c .nodes * (c .nodes - 1) ≤ c .pool → build c .number ≡ 10 → ⊥
   pub never-11 : (c : BuildCall) → ((w : ℕ) → In w (c .links .weights) → w ≤ maxLinkWeight) → c .nodes * (c .nodes - 1) ≤ 2 * room (c .lent .forward) →
       c .nodes * (c .nodes - 1) ≤ 2 * room (c .lent .backward) → build c .number ≡ 11 → ⊥
-  pub search-heap : (avoid limit a : ℕ) (g : List Arc) (s : Search) → Searched avoid limit a g s → length (s .heap) ≤ suc (length g)
+  -- heap items are of two numbers: they fit the scratch asked for
+  pub search-heap : (n pool avoid limit a : ℕ) (g : List Arc) (s : Search) → Searched avoid limit a g s → length g ≤ pool →
+      2 * length (s .heap) ≤ getD (build-scratch n pool) 4 0
+  pub query-heap : (q : QueryCall) → query-refusal q ≡ 0 → (k : ℕ) →
+      (2 * length (rounds (q .hierarchy) k (entered q) .fwd .heap) ≤ getD (query-scratch (q .nodes) (q .hierarchy)) 2 0) ×
+      (2 * length (rounds (q .hierarchy) k (entered q) .bwd .heap) ≤ getD (query-scratch (q .nodes) (q .hierarchy)) 3 0)
   pub query-small : (q : QueryCall) → query-refusal q ≡ 0 → (k : ℕ) →
       Small (q .nodes) (q .hierarchy) forward (length (q .sources .nodes)) (rounds (q .hierarchy) k (entered q) .fwd) ×
       Small (q .nodes) (q .hierarchy) backward (length (q .targets .nodes)) (rounds (q .hierarchy) k (entered q) .bwd)
@@ -68,9 +74,5 @@ pub record Demands : Type 0 where
   pub unpacked-plain : (h : Hierarchy) (s : Side) (e : ℕ) → is-shortcut (entry (table h s) e) ≡ false → unpacked h s e ≡ tail-of s (entry (table h s) e) ∷ []
   pub digits-enough : (n k : ℕ) → digits (suc n + k) n ≡ digits (suc n) n
   pub lines-enough : (at k : ℕ) (p : Phase) (bs : List ℕ) → lines (length bs + k) at p bs ≡ lines (length bs) at p bs
-  -- 5. One outcome: a contract that says "the answer is the definition's" leaves no choice.
-  pub one-build : (c : BuildCall) (o p : Built) → o ≡ build c → p ≡ build c → o ≡ p
-  pub one-check : (n : ℕ) (h : Hierarchy) (o p : ℕ) → o ≡ check-refusal n h → p ≡ check-refusal n h → o ≡ p
-  pub one-query : (q : QueryCall) (o p : Answered) → o ≡ query q → p ≡ query q → o ≡ p
-  -- 6. What a build promises a query.
+  -- 5. What a build promises a query.
   pub promise : (c : BuildCall) → IsBuilt c → Promise (c .nodes) (linkList (c .links)) (build c .hierarchy)

@@ -2,3 +2,4 @@
 pub mod Demand
 pub mod Demands
 pub mod Unbuilt
+pub mod Records

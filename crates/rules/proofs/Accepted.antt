@@ -1,37 +1,20 @@
 -- What an accepted build gives: each row that was not met.
 use mathlib.Core.Path.{_≡_}
-use mathlib.Core.Bool.{true, false, not}
-use mathlib.Core.List.{List}
-use Prim.Native.Nat.{ℕ, suc, _≤_, _<_}
+use mathlib.Core.Bool.{false, not}
+use Prim.Native.Nat.{ℕ, suc, _≤_}
 use native.Mathlib.Omega.{arith}
 use lib.Dec.{eqb, ltb}
 use lib.ListN.{length}
 use borrow.Author.Tests.{eqb-true, eqb-false, ltb-true, ltb-false, not-false}
 use Rattle.rules.specs.Numbers.{maxNodes}
-use Rattle.rules.specs.Lists.{In, distinct}
-use Rattle.rules.specs.Columns.{Link, linkList, Table, equally-long, EquallyLong}
-use Rattle.rules.specs.Refusals.{BuildCall, names-none-above, loop, ascending, table-short, lent-short, graph-rows, order-rows, build-refusal}
+use Rattle.rules.specs.Columns.{linkList, Table, equally-long, EquallyLong}
+use Rattle.rules.specs.Refusals.{BuildCall, names-none-above, loop, table-short, lent-short, graph-rows, order-rows, build-refusal}
+use Rattle.rules.specs.Accepted.{AcceptedBuild}
 use Rattle.rules.proofs.Decides.{and-both}
 use Rattle.rules.proofs.TablesDecided.{columns-decided}
 use Rattle.rules.proofs.Rows.{not-met}
 use Rattle.rules.proofs.Cases.{neither}
 use Rattle.rules.proofs.Members.{all-each, none-any}
-
--- An accepted graph and order.
-pub record AcceptedBuild (c : BuildCall) : Type 0 where
-  pub nodes : c .nodes ≤ maxNodes
-  pub below : (l : Link) → In l (linkList (c .links)) → (l .tail < c .nodes) × (l .head < c .nodes)
-  pub loopless : (l : Link) → In l (linkList (c .links)) → l .tail ≡ l .head → ⊥
-  pub positive : (l : Link) → In l (linkList (c .links)) → 1 ≤ l .weight
-  pub links-ascend : ascending (linkList (c .links)) ≡ true
-  pub order-length : length (c .order) ≡ c .nodes
-  pub order-below : (v : ℕ) → In v (c .order) → v < c .nodes
-  pub order-distinct : distinct (c .order) ≡ true
-  pub ranks-room : c .nodes ≤ length (c .lent .ranks)
-  pub fwd-starts : suc (c .nodes) ≤ length (c .lent .forward .starts)
-  pub fwd-columns : EquallyLong (c .lent .forward)
-  pub bwd-starts : suc (c .nodes) ≤ length (c .lent .backward .starts)
-  pub bwd-columns : EquallyLong (c .lent .backward)
 
 table-long : (n : ℕ) (t : Table) → table-short n t ≡ false → (suc n ≤ length (t .starts)) × EquallyLong t
 unfolding table-short

@@ -6,7 +6,7 @@ use mathlib.Core.List.{List, [], _∷_, List·Memᴰ·cases-cons, List·Memᴰ·
 use Prim.Native.Nat.{ℕ, zero, suc, _<_}
 use native.Mathlib.Omega.{arith}
 use lib.ListN.{length, getD}
-use Rattle.rules.specs.Lists.{In, Decides}
+use Rattle.rules.specs.Lists.{Decides, In}
 use Rattle.rules.specs.Columns.{Link}
 use Rattle.rules.specs.Refusals.{goes-before, ascending}
 use Rattle.rules.proofs.Decides.{ltb-decides, eqb-decides, and-decides, or-decides, and-both, both-and}

@@ -1,8 +1,8 @@
 -- The first demand, proved.
-use mathlib.Core.Path.{_≡_, refl, sym, _∙_, ap}
-use mathlib.Core.Logic.{_↔_, _⊎_, inl, inr}
+use mathlib.Core.Path.{_≡_, refl, ap}
+use mathlib.Core.Logic.{_↔_, _⊎_, inl, inr, Iff·trans}
 use mathlib.Core.List.{List, [], _∷_, map, List·Memᴰ·cases-cons, List·Memᴰ·not-nil}
-use Prim.Native.Nat.{ℕ, suc, _+_, _-_, _*_, _^_, _≤_, _<_}
+use Prim.Native.Nat.{ℕ, _-_, _^_, _≤_, _<_}
 use native.Mathlib.Omega.{arith}
 use lib.ListN.{length}
 use Rattle.rules.specs.Lists.{In}
@@ -12,13 +12,13 @@ use Rattle.rules.specs.Refusals.{BuildCall, QueryCall, build-scratch, qu
 use Rattle.rules.specs.Search.{init}
 use Rattle.rules.specs.Build.{Built, build}
 use Rattle.rules.specs.Query.{Answered, searched, walk, no-route, query}
-use Rattle.rules.specs.FirstDemand.{Sentence, _says_, Lowest, build-table, query-table, FilledAll, BeyondAll, Nothing, Handed, Linear, Modest, value, last-start, FirstDemand}
+use Rattle.rules.specs.FirstDemand.{Lowest, build-table, query-table, FilledAll, BeyondAll, Nothing, Handed, Linear, Modest, value, last-start, FirstDemand}
 use Rattle.rules.proofs.Cases.{on-test}
 use Rattle.rules.proofs.Decides.{denied}
 use Rattle.rules.proofs.TablesDecided.{tables-decided}
 use Rattle.rules.proofs.Numbers.{pool-exceeded, table-exceeded, sum-exceeded}
 use Rattle.rules.proofs.Sentences.{build-lowest, query-lowest, check-decided}
-use Rattle.rules.proofs.Outcomes.{Ended, early, late, whole, ended, marked-fills, built-beyond}
+use Rattle.rules.proofs.Outcomes.{early, late, whole, ended, marked-fills, built-beyond}
 use Rattle.rules.proofs.Answers as answers
 use Rattle.rules.proofs.Settles.{stands, search-settles}
 
@@ -31,7 +31,7 @@ module _ (c : BuildCall) where
   build-number r low high =
       elim (ended c) [
         | early k p a b e ↦ (λ x. omega (arith, number-of _ e), λ x. omega (arith, number-of _ e))
-        | late k p a b e ↦ (λ x. absurd (omega (arith, number-of _ e)), λ x. absurd (omega arith))
+        | late k p m a b e ↦ (λ x. absurd (omega (arith, number-of _ e)), λ x. absurd (omega arith))
         | whole k p a e ↦ (λ x. absurd (omega (arith, number-of _ e)), λ x. absurd (omega arith))
       ]
 
@@ -42,7 +42,7 @@ module _ (c : BuildCall) where
           λ x. absurd (omega (arith, build-lowest c 0 .1 x)),
           λ x. elim x [ inl y ↦ absurd (omega (arith, number-of _ e)) | inr y ↦ absurd (omega (arith, y .0, number-of _ e)) ],
         )
-        | late k p a b e ↦ (λ _. inr (omega (arith, number-of _ e), omega (arith, number-of _ e)), λ _. build-lowest c 0 .0 p)
+        | late k p m a b e ↦ (λ _. inr (omega (arith, number-of _ e), omega (arith, number-of _ e)), λ _. build-lowest c 0 .0 p)
         | whole k p a e ↦ (λ _. inl (number-of _ e), λ _. build-lowest c 0 .0 p)
       ]
 
@@ -50,7 +50,7 @@ module _ (c : BuildCall) where
   untouched low high =
       elim (ended c) [
         | early k p a b e ↦ ap (λ b. b .hierarchy) e
-        | late k p a b e ↦ absurd (omega (arith, number-of _ e))
+        | late k p m a b e ↦ absurd (omega (arith, number-of _ e))
         | whole k p a e ↦ absurd (omega (arith, number-of _ e))
       ]
 
@@ -58,15 +58,15 @@ module _ (c : BuildCall) where
   filled high =
       elim (ended c) [
         | early k p a b e ↦ absurd (omega (arith, number-of _ e))
-        | late k p a b e ↦ rw e (marked-fills (c .lent))
+        | late k p m a b e ↦ rw e (marked-fills (c .lent))
         | whole k p a e ↦ absurd (omega (arith, number-of _ e))
       ]
 
   beyond : build c .number ≡ 0 → BeyondAll (c .nodes) (c .lent) (build c .hierarchy)
-  beyond zero =
+  beyond done =
       elim (ended c) [
         | early k p a b e ↦ absurd (omega (arith, number-of _ e))
-        | late k p a b e ↦ absurd (omega (arith, number-of _ e))
+        | late k p m a b e ↦ absurd (omega (arith, number-of _ e))
         | whole k p a e ↦ rw e (built-beyond c k p a)
       ]
 
@@ -121,7 +121,7 @@ module _ (q : QueryCall) where
       ]
 
   answered : query q .number ≡ 0 → Nothing q (query q) ⊎ Handed q (query q)
-  answered zero =
+  answered done =
       elim (answers.replied q) [
         | answers.early k p a b e ↦ inl (answers.nothing q k e)
         | answers.none p a e ↦ inl (answers.nothing q 0 e)
@@ -196,11 +196,7 @@ first-demand =
       program-input = refl;
       program-nodes = refl;
       program-links = refl;
-      build-refused =
-          λ c r low high.
-          let number = build-number c r low high in
-          let lowest = build-lowest c r in
-          (λ e. lowest .0 (number .0 e), λ x. number .1 (lowest .1 x));
+      build-refused = λ c r low high. Iff·trans (build-number c r low high) (build-lowest c r);
       build-works = build-works;
       untouched = untouched;
       filled = filled;
@@ -210,11 +206,7 @@ first-demand =
       sum-exceeded = sum-exceeded;
       check-refused = check-refused;
       check-passes = check-passes;
-      query-refused =
-          λ q r low high.
-          let number = query-number q r low high in
-          let lowest = query-lowest q r in
-          (λ e. lowest .0 (number .0 e), λ x. number .1 (lowest .1 x));
+      query-refused = λ q r low high. Iff·trans (query-number q r low high) (query-lowest q r);
       query-works = query-works;
       too-long = too-long;
       refused-nothing = refused-nothing;

@@ -1,7 +1,7 @@
 -- With which numbers a build's steps can end.
 use mathlib.Core.Path.{_≡_, refl, sym, ap}
 use mathlib.Core.Logic.{_↔_, _⊎_}
-use mathlib.Core.Bool.{Bool, _&&_}
+use mathlib.Core.Bool.{Bool, true, false, _&&_}
 use mathlib.Core.List.{List, [], _∷_, _++_}
 use Prim.Native.Nat.{ℕ, _+_, _≤_, _<_}
 use native.Mathlib.Omega.{arith}
@@ -9,7 +9,7 @@ use lib.Dec.{eqb, ltb, leb}
 use lib.ListN.{length}
 use borrow.Author.Tests.{leb-false, lt-leb, ltb-true, lt-ltb}
 use Rattle.rules.specs.Numbers.{maxWeight}
-use Rattle.rules.specs.Columns.{linkList, forward, backward, room}
+use Rattle.rules.specs.Columns.{forward, backward}
 use Rattle.rules.specs.Refusals.{Row, first-met, BuildCall, graph-rows, order-rows, build-refusal, QueryCall, check-rows, end-rows, query-refusal}
 use Rattle.rules.specs.Graph.{Arc, outs, ins}
 use Rattle.rules.specs.Search.{init, find-max-weight}
@@ -23,7 +23,7 @@ abbrev pub UpTo : ℕ → List Row → Type 0
 UpTo k [] = Unit {0}
 UpTo k (r ∷ rs) = (r .number ≤ k) × UpTo k rs
 
-first-up-to : (k : ℕ) (rs : List Row) → UpTo k rs → first-met rs ≤ k
+pub first-up-to : (k : ℕ) (rs : List Row) → UpTo k rs → first-met rs ≤ k
 unfolding first-met
 first-up-to k [] h = omega arith
 first-up-to k (r ∷ rs) h =
@@ -54,27 +54,26 @@ module _ (P : ℕ → Type 0) where
   then-only (went a) f p q = q a refl
   then-only (refused k) f p q = λ r e. p r (let same : k ≡ r = cc in ap refused same)
 
+  -- whichever way a test turns
+  pub either-only : {A : Type 0} {x y : Step A} (b : Bool) → Only x → Only y → Only {A = A} (elim b as (λ _. Step A) [ true ↦ x | false ↦ y ])
+  either-only true p q = p
+  either-only false p q = q
+
   -- A leaf's own number is all that it can end with.
   pub pool-leaf : P 10 → (pool : ℕ) (g : List Arc) → Only (in-pool pool g)
   unfolding in-pool
-  pool-leaf ten pool g =
-      on-test (leb (length g) pool)
-      (λ t. rw (t, in-pool) (went-only g))
-      (λ t. rw (t, in-pool) (refused-only 10 ten))
+  pool-leaf ten pool g = either-only (leb (length g) pool) (went-only g) (refused-only 10 ten)
 
   pub tables-leaf : P 11 → (fwd bwd : ℕ) (levels : List Level) → Only (in-tables fwd bwd levels)
   unfolding in-tables
   tables-leaf eleven fwd bwd levels =
-      on-test (leb (length (raws forward levels)) fwd && leb (length (raws backward levels)) bwd)
-      (λ t. rw (t, in-tables) (went-only levels))
-      (λ t. rw (t, in-tables) (refused-only 11 eleven))
+      either-only (leb (length (raws forward levels)) fwd && leb (length (raws backward levels)) bwd) (went-only levels) (refused-only 11 eleven)
 
   pub ask-leaf : P 10 → (pool limit v : ℕ) (s : Arc) (c : Contracting) → Only (ask pool limit v s c)
   unfolding ask unless-witness add
   ask-leaf ten pool limit v s c =
-      on-test (leb (find-max-weight (c .graph) v limit (s .head) (s .weight) (c .search) .weight) (s .weight))
-      (λ w. rw (w, unless-witness) (went-only _))
-      (λ w. rw (w, unless-witness) (then-only _ _ (pool-leaf ten pool _) (λ m _. went-only _)))
+      either-only (leb (find-max-weight (c .graph) v limit (s .head) (s .weight) (c .search) .weight) (s .weight)) (went-only _)
+      (then-only _ _ (pool-leaf ten _ _) (λ m _. went-only _))
 
   -- The steps, where 10, 11 and 12 pass.
   module _ (ten : P 10) (eleven : P 11) (twelve : P 12) where
@@ -82,13 +81,8 @@ module _ (P : ℕ → Type 0) where
       pair-leaf : (a b : Arc) (c : Contracting) → Only (pair pool limit v a b c)
       unfolding pair within-sum shortcut
       pair-leaf a b c =
-          on-test (eqb (a .tail) (b .head))
-          (λ t. rw (t, pair) (went-only c))
-          (λ t.
-          rw (t, pair)
-          (on-test (ltb maxWeight (a .weight + b .weight))
-          (λ u. rw (u, within-sum) (refused-only 12 twelve))
-          (λ u. rw (u, within-sum) (ask-leaf ten pool limit v _ c))))
+          either-only (eqb (a .tail) (b .head)) (went-only c)
+          (either-only (ltb maxWeight (a .weight + b .weight)) (refused-only 12 twelve) (ask-leaf ten pool limit v (shortcut pool limit v a b) c))
 
       pairs-leaf : (a : Arc) (bs : List Arc) (c : Contracting) → Only (pairs-of pool limit v a bs c)
       unfolding pairs-of
@@ -110,13 +104,13 @@ module _ (P : ℕ → Type 0) where
     steps-leaf c [] b = went-only b
     steps-leaf c (v ∷ vs) b =
         then-only _ _
-        (then-only _ _ (tables-leaf eleven (room (c .lent .forward)) (room (c .lent .backward)) _)
+        (then-only _ _ (tables-leaf eleven _ _ _)
         (λ levels _. then-only _ _ (contract-leaf (c .pool) (c .limit) v (b .graph)) (λ g _. went-only _)))
         (λ k _. steps-leaf c vs k)
 
     pub contraction-leaf : (c : BuildCall) → Only (contraction c)
     unfolding contraction from-links
-    contraction-leaf c = then-only _ _ (pool-leaf ten (c .pool) _) (λ g _. steps-leaf c (c .order) _)
+    contraction-leaf c = then-only _ _ (pool-leaf ten _ _) (λ g _. steps-leaf c (c .order) _)
 
 pub contraction-numbers : (c : BuildCall) (r : ℕ) → contraction c ≡ refused r → (10 ≤ r) × (r ≤ 12)
 contraction-numbers c = contraction-leaf (λ r. (10 ≤ r) × (r ≤ 12)) (omega arith) (omega arith) (omega arith) c

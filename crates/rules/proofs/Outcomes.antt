@@ -1,35 +1,26 @@
 -- What a build and a query answer, in each of their three ends, and what every lent place then holds.
 use mathlib.Core.Path.{_≡_, refl, sym, _∙_, ap, ap₂}
-use mathlib.Core.Logic.{_↔_, _⊎_, inl, inr}
-use mathlib.Core.Bool.{true, false, _&&_}
-use mathlib.Core.List.{List, [], _∷_, _++_, map}
-use Prim.Native.Nat.{ℕ, zero, suc, _+_, _-_, _≤_, _<_, zero-le}
+use mathlib.Core.List.{List, _++_, map}
+use Prim.Native.Nat.{ℕ, zero, suc, _+_, _-_, _≤_}
 use native.Mathlib.Omega.{arith}
-use native.Mathlib.Numerals.{add-one}
 use native.Mathlib.Nat.{zero-add}
-use lib.Dec.{eqb, ltb, leb}
-use lib.ListN.{length, getD, drop, length-append, length-map, length-replicate, getD-replicate}
+use lib.ListN.{length, getD, drop, length-map, length-replicate, getD-replicate}
 use lib.Seq.{getD-append-add, getD-drop}
-use borrow.Author.Tests.{leb-true, eqb-true, eqb-false, eq-eqb, ne-eqb, ltb-true, ltb-false, lt-ltb, le-ltb}
 use Rattle.rules.specs.Numbers.{invalid, noWeight}
 use Rattle.rules.specs.Lists.{over, filled, range}
 use Rattle.rules.specs.Columns.{Table, Entry, Hierarchy, Side, forward, backward, room, marked-table, marked, EquallyLong}
-use Rattle.rules.specs.Refusals.{BuildCall, build-refusal, QueryCall, query-refusal}
-use Rattle.rules.specs.Graph.{Arc, outs, ins}
-use Rattle.rules.specs.Build.{Step, went, refused, and-then, from-links, Level, arcs-of, level-raws, raws, in-tables, Building, contract-node, rank-step, rank-steps, contraction, starts-of, finished, laid, ranks-of, finish-contraction, Built, built, unless-refused, build}
+use Rattle.rules.specs.Refusals.{BuildCall, build-refusal}
+use Rattle.rules.specs.Build.{Step, went, refused, Level, arcs-of, level-raws, raws, Building, contraction, starts-of, finished, laid, ranks-of, finish-contraction, built, unless-refused, build}
 use Rattle.rules.specs.FirstDemand.{Filled, FilledTable, FilledAll, Beyond, BeyondTable, BeyondAll, last-start}
-use Rattle.rules.proofs.Cases.{on-test}
-use Rattle.rules.proofs.Decides.{and-both}
-use Rattle.rules.proofs.Steps.{went-same, refused-not-went, both-went}
-use Rattle.rules.proofs.Prefixes.{prefix, sizes, sums-at, sums-length, flat-length, over-at, over-length, range-length}
-use Rattle.rules.proofs.Accepted.{AcceptedBuild, accepted-build}
-use Rattle.rules.proofs.Ranks.{same-sizes, Fit, contraction-levels}
+use Rattle.rules.proofs.Prefixes.{prefix, sums-at, sums-length, flat-length, over-at, over-length, range-length}
+use Rattle.rules.proofs.Accepted.{accepted-build}
+use Rattle.rules.proofs.Ranks.{same-sizes, contraction-levels}
 use Rattle.rules.proofs.Numbers.{build-refusal-most, contraction-numbers}
 
 -- The three ends of a build.
 pub data Ended (c : BuildCall) : Type 0 where
   early : (r : ℕ) → build-refusal c ≡ r → 1 ≤ r → r ≤ 9 → build c ≡ record { number = r; hierarchy = c .lent } → Ended c
-  late : (r : ℕ) → build-refusal c ≡ 0 → 10 ≤ r → r ≤ 12 → build c ≡ record { number = r; hierarchy = marked (c .lent) } → Ended c
+  late : (r : ℕ) → build-refusal c ≡ 0 → contraction c ≡ refused r → 10 ≤ r → r ≤ 12 → build c ≡ record { number = r; hierarchy = marked (c .lent) } → Ended c
   whole : (b : Building) → build-refusal c ≡ 0 → contraction c ≡ went b → build c ≡ record { number = 0; hierarchy = finish-contraction c (b .levels) } → Ended c
 
 pub ended : (c : BuildCall) → Ended c
@@ -38,7 +29,7 @@ ended c = go (build-refusal c) refl (contraction c) refl
   where
     go : (k : ℕ) → build-refusal c ≡ k → (m : Step Building) → contraction c ≡ m → Ended c
     go zero p (went b) q = whole b p q (ap (unless-refused c) p ∙ ap (built c) q)
-    go zero p (refused r) q = let n = contraction-numbers c r q in late r p (n .0) (n .1) (ap (unless-refused c) p ∙ ap (built c) q)
+    go zero p (refused r) q = let n = contraction-numbers c r q in late r p q (n .0) (n .1) (ap (unless-refused c) p ∙ ap (built c) q)
     go (suc k) p m q = early (suc k) p (omega arith) (omega (arith, build-refusal-most c)) (ap (unless-refused c) p)
 
 -- Every place set to a mark.

@@ -1,17 +1,16 @@
 -- A test that fails says that a fact fails, and where: it is false exactly if the statement holds. Tests joined by && fail
 -- where one of them does, tests joined by || where both do.
-use mathlib.Core.Path.{_≡_, refl, sym, _∙_}
+use mathlib.Core.Path.{_≡_, refl, sym}
 use mathlib.Core.Logic.{_↔_, _⊎_, inl, inr}
-use mathlib.Core.Bool.{Bool, true, false, not, _&&_, _||_, true≢false, false≢true}
+use mathlib.Core.Bool.{Bool, true, false, not, _&&_, _||_, true≢false}
 use mathlib.Core.List.{List, [], _∷_}
-use Prim.Native.Nat.{ℕ, zero, suc, _≤_, _<_}
+use Prim.Native.Nat.{ℕ, suc, _≤_, _<_}
 use native.Mathlib.Omega.{arith}
 use lib.Dec.{eqb, ltb, leb}
 use lib.ListN.{length, getD}
 use borrow.Author.Tests.{ltb-false, leb-false, le-ltb, lt-leb, not-true}
-use Rattle.rules.specs.Lists.{In, all, any, distinct, Decides}
+use Rattle.rules.specs.Lists.{Decides, all, any, distinct}
 use Rattle.rules.proofs.Cases.{on-test, not-both, neither}
-use Rattle.rules.proofs.Decides.{decides-as}
 use Rattle.rules.proofs.Members.{in-any, any-in, any-same, getD-in, in-getD, all-each}
 use Rattle.rules.proofs.Ranges.{distinct-decides}
 

@@ -1,7 +1,7 @@
 -- Each row's test decides its sentence, so the number that comes before any work is that of the lowest sentence that holds.
 use mathlib.Core.Path.{_≡_, refl, sym, _∙_}
 use mathlib.Core.Logic.{_↔_, _⊎_, inl, inr}
-use mathlib.Core.Bool.{Bool, true, false, not, false≢true}
+use mathlib.Core.Bool.{Bool, false≢true}
 use mathlib.Core.List.{List, [], _∷_, _++_}
 use Prim.Native.Nat.{ℕ, zero, suc, _+_, _-_, _*_, _^_, _≤_, _<_}
 use native.Mathlib.Omega.{arith}
@@ -9,14 +9,13 @@ use native.Mathlib.Numerals.{add-one}
 use lib.Dec.{eqb, ltb, leb}
 use lib.ListN.{length, getD}
 use borrow.Author.Tests.{ltb-true, lt-ltb, leb-false, lt-leb}
-use Rattle.rules.specs.Numbers.{maxNodes, maxLinks, maxEnds, maxWeight, noWeight}
-use Rattle.rules.specs.Lists.{all, any, distinct, Decides}
-use Rattle.rules.specs.Columns.{Links, Link, zip-links, linkList, Table, EquallyLong, equally-long, Hierarchy, Ends, begin}
-use Rattle.rules.specs.TableRules.{used, TableRules, table-test}
+use Rattle.rules.specs.Lists.{Decides, all, any}
+use Rattle.rules.specs.Columns.{Links, Link, zip-links, linkList, Table, Hierarchy, Ends, begin}
+use Rattle.rules.specs.TableRules.{used, TableRules}
 use Rattle.rules.specs.Refusals.{Row, row, first-met, short, BuildCall, build-scratch, names-none-above, loop, ascending, columns-fit, table-short, lent-short, graph-rows, order-rows, build-refusal, QueryCall, query-scratch, ends-fit, offset-fits, check-rows, end-rows, check-refusal, query-refusal}
 use Rattle.rules.specs.FirstDemand.{Sentence, _says_, Lowest, At, IsLink, ALink, Ascending, Short, TableShort, build-table, EndsUnfit, OffsetUnfit, query-table}
 use Rattle.rules.proofs.Cases.{on-test}
-use Rattle.rules.proofs.Decides.{ltb-decides, leb-decides, eqb-decides, or-decides, decides-as, denied}
+use Rattle.rules.proofs.Decides.{ltb-decides, eqb-decides, or-decides, decides-as, denied}
 use Rattle.rules.proofs.Refutes.{Refutes, refutes-as, not-decides, refuted, not-below, not-within, and-refutes, or-refutes, regrouped, any-decides, all-refutes, distinct-refutes}
 use Rattle.rules.proofs.Ascending.{ascending-decides}
 use Rattle.rules.proofs.TablesDecided.{columns-decided, tables-decided}

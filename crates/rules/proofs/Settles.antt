@@ -6,9 +6,8 @@ use mathlib.Core.List.{List, [], _∷_, List·Memᴰ·cases-cons, List·Memᴰ·
 use Prim.Native.Nat.{ℕ, suc, _+_, _≤_, _<_}
 use native.Mathlib.Omega.{arith}
 use lib.Dec.{eqb, ltb}
-use lib.ListN.{length}
 use borrow.Author.Tests.{leb-false}
-use Rattle.rules.specs.Lists.{In, any, distinct, update}
+use Rattle.rules.specs.Lists.{any, distinct, update}
 use Rattle.rules.specs.Heap.{Item}
 use Rattle.rules.specs.Graph.{Arc, outs}
 use Rattle.rules.specs.Search.{Search, offer, relax, with-heap, mark-settled, settle, find-max-weight}

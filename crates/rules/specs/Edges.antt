@@ -1,17 +1,16 @@
 -- The edges of the calls' rules, as cases: just enough and one place less of all that is lent, the largest numbers and one
 -- more, a walk that is longer than the buffer, and what a step does where a rule turns.
 use mathlib.Core.Path.{_≡_, refl}
-use mathlib.Core.List.{List, [], _∷_, _++_, map}
-use Prim.Native.Nat.{ℕ, suc, _+_, _-_, _*_, _^_}
+use mathlib.Core.List.{List, [], _∷_, map}
+use Prim.Native.Nat.{ℕ, suc, _+_, _-_, _^_}
 use lib.ListN.{getD, set, replicate}
-use Rattle.rules.specs.Numbers.{invalid, noWeight}
+use Rattle.rules.specs.Numbers.{invalid}
 use Rattle.rules.specs.Lists.{range}
-use Rattle.rules.specs.Columns.{Link, Table, Entry, Hierarchy, Ends}
+use Rattle.rules.specs.Columns.{Table, Hierarchy}
 use Rattle.rules.specs.Refusals.{BuildCall, QueryCall, check-refusal}
-use Rattle.rules.specs.Build.{Built, build}
-use Rattle.rules.specs.Query.{End, Answered, query}
-use Rattle.rules.specs.Bench.{Given, link, at, plain, opened, columns, L, L-with, L-tables}
-use Rattle.rules.specs.Computing.{computing}
+use Rattle.rules.specs.Build.{build}
+use Rattle.rules.specs.Query.{End, query}
+use Rattle.rules.specs.Bench.{Given, link, at, plain, opened, columns, building, querying, L, L-with, L-tables, observing}
 
 -- one less of the k-th
 unfoldable pub less : ℕ → List ℕ → List ℕ
@@ -41,21 +40,7 @@ unfoldable pub blank : List ℕ → Hierarchy
 blank places = record { ranks = replicate (getD places 0 0) 7; forward = blank-table places 1; backward = blank-table places 7 }
 
 unfoldable pub lending : Given → List ℕ → ℕ → List ℕ → BuildCall
-lending g places pool scratch =
-    record {
-      nodes = g .nodes;
-      links =
-          record {
-            tails = map (λ l. l .tail) (g .links);
-            heads = map (λ l. l .head) (g .links);
-            weights = map (λ l. l .weight) (g .links);
-          };
-      order = g .order;
-      limit = g .limit;
-      pool = pool;
-      lent = blank places;
-      scratch = scratch;
-    }
+lending g places pool scratch = building g (blank places) pool scratch
 
 unfoldable pub built : List BuildCall → List ℕ
 built cs = map (λ c. build c .number) cs
@@ -71,26 +56,15 @@ L-scratch = 18 ∷ 3 ∷ 12 ∷ 6 ∷ 8 ∷ []
 unfoldable pub L-of : ℕ → ℕ → Given
 L-of a b = record { nodes = 3; links = link 0 1 a ∷ link 1 2 b ∷ []; order = 1 ∷ 0 ∷ 2 ∷ []; limit = 100 }
 
--- A query of case L's tables with so many places of the path and such scratch: 36 for two entries and 16 ends, and 34.
-unfoldable pub asking : Hierarchy → ℕ → List End → List End → ℕ → List ℕ → QueryCall
-asking h n ss ts places scratch =
-    record {
-      nodes = n;
-      hierarchy = h;
-      sources = record { nodes = map (λ e. e .node) ss; offsets = map (λ e. e .offset) ss };
-      targets = record { nodes = map (λ e. e .node) ts; offsets = map (λ e. e .offset) ts };
-      path = replicate places 7;
-      scratch = scratch;
-    }
-
 unfoldable pub L-built : Hierarchy
 L-built = L-tables (opened 0 2 5 0 0)
 
+-- 36 for two entries and 16 ends, and 34 for one
 unfoldable pub L-query-scratch : List ℕ
 L-query-scratch = 12 ∷ 12 ∷ 36 ∷ 34 ∷ []
 
 unfoldable pub L-asking : List End → List End → QueryCall
-L-asking ss ts = asking L-built 3 ss ts 3 L-query-scratch
+L-asking ss ts = querying 3 L-built ss ts 3 L-query-scratch
 
 unfoldable pub answered : List QueryCall → List ℕ
 answered qs = map (λ q. query q .number) qs
@@ -100,12 +74,13 @@ unfoldable pub round-trip : Hierarchy
 round-trip =
     record {
       ranks = 0 ∷ 1 ∷ 2 ∷ 3 ∷ [];
-      forward = columns (0 ∷ 2 ∷ 3 ∷ 4 ∷ 4 ∷ []) (plain 0 1 1 ∷ plain 0 3 1 ∷ opened 1 3 2 1 1 ∷ opened 2 3 4 2 2 ∷ []);
-      backward = columns (0 ∷ 2 ∷ 3 ∷ 3 ∷ 3 ∷ []) (plain 0 2 1 ∷ plain 0 1 1 ∷ opened 1 2 2 0 0 ∷ []);
+      forward =
+          columns (0 ∷ 3 ∷ 4 ∷ 5 ∷ 5 ∷ []) (plain 0 1 1 ∷ plain 0 2 9 ∷ plain 0 3 1 ∷ opened 1 3 2 0 2 ∷ opened 2 3 4 2 3 ∷ []);
+      backward = columns (0 ∷ 2 ∷ 3 ∷ 3 ∷ 3 ∷ []) (plain 0 1 1 ∷ plain 0 2 1 ∷ opened 1 2 2 1 0 ∷ []);
     }
 
 unfoldable pub round-trip-asking : ℕ → QueryCall
-round-trip-asking places = asking round-trip 4 (at 2 0 ∷ []) (at 3 0 ∷ []) places (16 ∷ 16 ∷ 40 ∷ 38 ∷ [])
+round-trip-asking places = querying 4 round-trip (at 2 0 ∷ []) (at 3 0 ∷ []) places (16 ∷ 16 ∷ 42 ∷ 38 ∷ [])
 
 -- Tables of case L with another entry, and with other starts.
 unfoldable pub checked : List Hierarchy → List ℕ
@@ -125,8 +100,8 @@ L-ranked ranks = record { ranks = ranks; forward = L-built .forward; backward = 
 -- All of the above, where a case is computed.
 unfoldable pub edging : Unit {0}
 unfolding
-    less each-less blank-table blank lending built L-places L-scratch L-of asking L-built L-query-scratch L-asking answered
-    round-trip round-trip-asking checked L-starting L-ranked link at plain opened columns L L-with L-tables computing
+    less each-less blank-table blank lending built L-places L-scratch L-of L-built L-query-scratch L-asking answered round-trip
+    round-trip-asking checked L-starting L-ranked L L-with L-tables observing
 edging = tt
 
 -- Builds.
@@ -188,6 +163,11 @@ pub table-one-less : built
 unfolding edging
 table-one-less = refl
 
+-- rule 1 is held to the pool as well: one link, and no place for it
+pub no-pool : built (lending (record { nodes = 2; links = link 0 1 1 ∷ []; order = 0 ∷ 1 ∷ []; limit = 0 }) L-places 0 L-scratch ∷ []) ≡ 10 ∷ []
+unfolding edging
+no-pool = refl
+
 -- a pair sum of 2^40, and of one more (the definitions are over all numbers; a link's column holds 32 bits)
 pub largest-sum : built (lending (L-of (2 ^ 39) (2 ^ 39)) L-places 3 L-scratch ∷ lending (L-of (2 ^ 39) (2 ^ 39 + 1)) L-places 3 L-scratch ∷ []) ≡ 0 ∷ 12 ∷ []
 unfolding edging
@@ -200,11 +180,11 @@ pub query-just-enough : query (L-asking (at 0 0 ∷ []) (at 2 0 ∷ [])) ≡ rec
 unfolding edging
 query-just-enough = refl
 
-pub path-one-less : query (asking L-built 3 (at 0 0 ∷ []) (at 2 0 ∷ []) 2 L-query-scratch) ≡ record { number = 24; weight = 18446744073709551615; walk = []; path = 7 ∷ 7 ∷ [] }
+pub path-one-less : query (querying 3 L-built (at 0 0 ∷ []) (at 2 0 ∷ []) 2 L-query-scratch) ≡ record { number = 24; weight = 18446744073709551615; walk = []; path = 7 ∷ 7 ∷ [] }
 unfolding edging
 path-one-less = refl
 
-pub query-scratch-one-less : answered (map (λ ss. asking L-built 3 (at 0 0 ∷ []) (at 2 0 ∷ []) 3 ss) (each-less 4 L-query-scratch)) ≡ replicate 4 24
+pub query-scratch-one-less : answered (map (λ ss. querying 3 L-built (at 0 0 ∷ []) (at 2 0 ∷ []) 3 ss) (each-less 4 L-query-scratch)) ≡ replicate 4 24
 unfolding edging
 query-scratch-one-less = refl
 

@@ -4,12 +4,12 @@ use mathlib.Core.Path.{_≡_}
 use mathlib.Core.Logic.{_↔_, _⊎_}
 use mathlib.Core.Bool.{true, false, _||_}
 use mathlib.Core.List.{List, [], _∷_, map}
-use Prim.Native.Nat.{ℕ, suc, _+_, _-_, _*_, _^_, _≤_, _<_}
+use Prim.Native.Nat.{ℕ, _+_, _-_, _*_, _^_, _≤_, _<_}
 use lib.Dec.{eqb}
 use lib.ListN.{length, getD}
 use Rattle.rules.specs.Numbers.{maxNodes, maxLinks, maxEnds, maxLinkWeight, maxWeight, noWeight, invalid, maxInput, programNodes, programLinks}
 use Rattle.rules.specs.Lists.{In, any, distinct}
-use Rattle.rules.specs.Columns.{Links, Table, EquallyLong, Hierarchy, Side, forward, backward, Ends}
+use Rattle.rules.specs.Columns.{Links, Table, EquallyLong, Hierarchy, forward, backward, Ends}
 use Rattle.rules.specs.TableRules.{TableRules}
 use Rattle.rules.specs.Refusals.{BuildCall, QueryCall, build-scratch, query-scratch, check-refusal}
 use Rattle.rules.specs.Graph.{Arc}

@@ -15,8 +15,8 @@ use Rattle.rules.specs.Search.{Search, init, offer, relax, with-heap, mark-sett
 use Rattle.search_laws.specs.Paid.{paid, Paid}
 use Rattle.rules.proofs.Cases.{on-test}
 use Rattle.rules.proofs.Heaps.{update-same, update-other, push-length}
+use Rattle.rules.proofs.Turns.{first-turn, search-keeps}
 use Rattle.search_laws.proofs.Graphs.{reduced}
-use Rattle.search_laws.proofs.Searches.{first-turn, search-keeps}
 
 -- What an offer leaves alone, and how the heap grows.
 pub record Grown (most : ℕ) (s s′ : Search) : Type 0 where
@@ -158,7 +158,7 @@ module _ (g : List Arc) (avoid : ℕ) where
           omega (arith, ap length e, paid-now, paid-most (settle g avoid i (with-heap q s) .settled) g)
 
   pub search-paid : (limit target sum : ℕ) (s : Search) → Paid g s → Paid g (find-max-weight g avoid limit target sum s .search)
-  search-paid limit target sum = search-keeps g avoid limit target sum (Paid g) passed-paid settle-paid
+  search-paid limit target sum = search-keeps g avoid limit target sum (Paid g) passed-paid (λ i q s e _ t x. settle-paid i q s e t x)
 
   module _ (limit target sum : ℕ) where
     -- The fuel never runs out: with more than can leave, one more changes nothing.
@@ -167,7 +167,7 @@ module _ (g : List Arc) (avoid : ℕ) where
     run-enough (suc k) s h =
         first-turn g avoid limit target sum (λ x y. x ≡ y) k (suc k) s refl
         (λ i q e. run-enough k (with-heap q s) (omega (arith, passed-left i q s e)))
-        (λ i q e t. (refl, run-enough k (settle g avoid i (with-heap q s)) (omega (arith, settle-left i q s e t))))
+        (λ i q e _ t. (refl, run-enough k (settle g avoid i (with-heap q s)) (omega (arith, settle-left i q s e t))))
 
     pub search-fuel-enough : (s : Search) → left s < search-fuel g avoid limit target sum s
     unfolding search-fuel

@@ -2,9 +2,9 @@
 -- weights is needed.
 use mathlib.Core.Path.{_≡_, refl, sym, _∙_, ap}
 use mathlib.Core.Logic.{inl, inr}
-use mathlib.Core.Bool.{false, _||_}
+use mathlib.Core.Bool.{_||_}
 use mathlib.Core.List.{List, [], _∷_, List·Memᴰ·head, List·Memᴰ·tail, List·Memᴰ·eq-of-singleton, Memᴰ·cast}
-use Prim.Native.Nat.{ℕ, zero, suc, _+_, _<_, zero-le}
+use Prim.Native.Nat.{ℕ, _+_, _<_, zero-le}
 use native.Mathlib.Decide.{ℕ-discrete}
 use native.Mathlib.Omega.{arith}
 use lib.Dec.{eqb, ltb, leb}
@@ -13,9 +13,10 @@ use Rattle.rules.specs.Numbers.{noWeight}
 use Rattle.rules.specs.Lists.{In}
 use Rattle.rules.specs.Heap.{Item}
 use Rattle.rules.specs.Graph.{Arc, outs, disconnect}
-use Rattle.rules.specs.Search.{Search, init, offer, relax, with-heap, mark-settled, settle, reached, run, search-fuel, answer, find-max-weight}
+use Rattle.rules.specs.Search.{Search, init, offer, relax, with-heap, mark-settled, settle, answer, find-max-weight}
 use Rattle.rules.proofs.Cases.{on-test}
 use Rattle.rules.proofs.Heaps.{update-same, update-other, push-in}
+use Rattle.rules.proofs.Turns.{search-keeps}
 use Rattle.walks.specs.Paths.{Edges, stay, Within}
 use Rattle.walks.proofs.Paths.{Lighter, lighter-within, within-join, edge-within}
 use Rattle.search_laws.proofs.Graphs.{Arcs, Avoiding, by-ends, in-outs, disconnected-in, avoiding-never-at}
@@ -103,59 +104,6 @@ module _ (g : List Arc) (v : ℕ) {a : ℕ} (away : a ≡ v → ⊥) where
       let r = relax-walked (i .node) (i .weight) (outs g (i .node)) s (in-outs g (i .node)) p x in
       record { labels = r .labels; items = r .items }
 
--- Two runs from one search, by their first turn: both stop, or both go on with the fuel that is left to them.
-module _ (g : List Arc) (avoid limit target sum : ℕ) (R : Search → Search → Type 0) where
-  pub first-turn : (j k : ℕ) (s : Search) → R s s →
-      ((i : Item) (q : List Item) → s .heap ≡ i ∷ q →
-      R (run g avoid limit target sum j (with-heap q s)) (run g avoid limit target sum k (with-heap q s))) →
-      ((i : Item) (q : List Item) → s .heap ≡ i ∷ q → s .settled (i .node) ≡ false →
-      R (settle g avoid i (with-heap q s)) (settle g avoid i (with-heap q s)) ×
-      R (run g avoid limit target sum j (settle g avoid i (with-heap q s))) (run g avoid limit target sum k (settle g avoid i (with-heap q s)))) →
-      R (run g avoid limit target sum (suc j) s) (run g avoid limit target sum (suc k) s)
-  unfolding run
-  first-turn j k s stops passes settles = go (s .heap) refl
-    where
-      go : (q : List Item) → s .heap ≡ q → R (run g avoid limit target sum (suc j) s) (run g avoid limit target sum (suc k) s)
-      go [] e = rw (e, run) stops
-      go (i ∷ q) e =
-          rw (e, run)
-          (on-test (leb limit (s .count)) (λ t. rw t stops)
-          (λ t.
-          rw t
-          (on-test (ltb sum (i .weight)) (λ t. rw t stops)
-          (λ t.
-          rw t
-          (on-test (s .settled (i .node))
-          (λ t. rw t (passes i q e))
-          (λ t.
-          let on = settles i q e t in
-          rw t
-          (on-test (reached g avoid limit target sum i (settle g avoid i (with-heap q s)))
-          (λ t. rw t (on .0))
-          (λ t. rw t (on .1)))))))))
-
--- What passing over an entry keeps, and settling one, a whole search keeps.
-module _ (g : List Arc) (avoid limit target sum : ℕ) (P : Search → Type 0)
-    (passed : (i : Item) (q : List Item) (s : Search) → s .heap ≡ i ∷ q → P s → P (with-heap q s))
-    (settles : (i : Item) (q : List Item) (s : Search) → s .heap ≡ i ∷ q → s .settled (i .node) ≡ false → P s →
-    P (settle g avoid i (with-heap q s))) where
-  pub run-keeps : (k : ℕ) (s : Search) → P s → P (run g avoid limit target sum k s)
-  unfolding run
-  run-keeps zero s x = x
-  run-keeps (suc k) s x =
-      first-turn g avoid limit target sum (λ r _. P r) k k s x
-      (λ i q e. run-keeps k (with-heap q s) (passed i q s e x))
-      (λ i q e t.
-      let y = settles i q s e t x in
-      (y, run-keeps k (settle g avoid i (with-heap q s)) y))
-
-  pub search-keeps : (s : Search) → P s → P (find-max-weight g avoid limit target sum s .search)
-  unfolding find-max-weight answer
-  search-keeps s x =
-      on-test (s .settled target || leb (s .label target) sum)
-      (λ t. rw (t, find-max-weight) x)
-      (λ t. rw (t, find-max-weight) (run-keeps (search-fuel g avoid limit target sum s) s x))
-
 module _ (g : List Arc) (v : ℕ) {a : ℕ} (away : a ≡ v → ⊥) (limit target sum : ℕ) where
   pub search-walked : (s : Search) → Walked (Avoiding v g) a s →
       Walked (Avoiding v g) a (find-max-weight g v limit target sum s .search)
@@ -163,7 +111,7 @@ module _ (g : List Arc) (v : ℕ) {a : ℕ} (away : a ≡ v → ⊥) (limit targ
   search-walked =
       search-keeps g v limit target sum (Walked (Avoiding v g) a)
       (λ i q s e x. record { labels = x .labels; items = λ j m. x .items j (rw e (List·Memᴰ·tail m)) })
-      (λ i q s e t x.
+      (λ i q s e _ t x.
       settle-walked g v away i (with-heap q s) (x .items i (rw e (List·Memᴰ·head refl)))
       (record { labels = x .labels; items = λ j m. x .items j (rw e (List·Memᴰ·tail m)) }))
 

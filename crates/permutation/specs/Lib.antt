@@ -1,0 +1,2 @@
+-- What `each_once` tests.
+pub mod Once

@@ -1,0 +1,3 @@
+-- Laws of the table check.
+pub mod Entries
+pub mod Check

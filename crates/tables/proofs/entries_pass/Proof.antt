@@ -1,0 +1,82 @@
+-- The invariant: the entries of the ranks passed keep the rules.
+use mathlib.Core.Path.{_≡_}
+use Prim.Native.Nat.{ℕ, _+_, _-_, _≤_, _<_}
+use native.Mathlib.Omega.{arith}
+use borrow.Author.Needs.{needs}
+use borrow.Author.Tests.{not-true, not-false}
+use lib.ListN.{length}
+use Rattle.rules.proofs.Decides.{yes, no}
+use Rattle.tables.specs.Lent.{columns, side, sided}
+use Rattle.tables.specs.Shapes.{RanksRules}
+use Rattle.tables.proofs.Entries.{stretch-within, rank-fails, rank-holds}
+use Rattle.tables.proofs.entries_pass.Statement.{statement}
+use Rattle.tables.proofs.entries_pass.Tie as tie
+
+abbrev Inv-loop : tie.InvT-loop
+Inv-loop forward n ranks s b m w i o ts tb tm tw ti to r₀ r = (r ≤ n) × RanksRules n (sided (side forward) ranks (columns s b m w i o) (columns ts tb tm tw ti to)) (side forward) r
+
+abbrev μ-loop : tie.MeasureT-loop
+μ-loop forward n ranks s b m w i o ts tb tm tw ti to r₀ r = n - r
+
+loop-holds : tie.Need-loop-holds Inv-loop μ-loop
+loop-holds c = (omega arith, λ k low. absurd (omega arith))
+
+mul-rank-passes : tie.Need-mul-rank-passes Inv-loop μ-loop
+mul-rank-passes c = omega (arith, c .before .before .before .before .before .before .before .before .before .before .before .before .before .before .before .pre .nodes)
+
+shared-slice-read-rank-passes : tie.Need-shared-slice-read-rank-passes Inv-loop μ-loop
+shared-slice-read-rank-passes c = omega (arith, c .before .before .before .before .before .before .before .before .before .before .before .before .before .before .before .before .pre .own-shape .places-for-starts)
+
+cast-rank-passes : tie.Need-cast-rank-passes Inv-loop μ-loop
+cast-rank-passes c = omega (arith, c .shared-slice-known14 .given (c .before .before .loop .r))
+
+add-rank-passes : tie.Need-add-rank-passes Inv-loop μ-loop
+add-rank-passes c = omega (arith, c .before .before .before .before .before .before .before .before .before .before .before .before .before .before .before .before .pre .nodes)
+
+mul-rank-passes-2 : tie.Need-mul-rank-passes-2 Inv-loop μ-loop
+mul-rank-passes-2 c = omega (arith, c .before .before .before .before .before .before .before .before .before .before .before .before .before .before .before .before .pre .nodes)
+
+shared-slice-read-rank-passes-2 : tie.Need-shared-slice-read-rank-passes-2 Inv-loop μ-loop
+shared-slice-read-rank-passes-2 c = omega (arith, c .before .before .before .before .before .before .before .before .before .before .before .before .before .before .before .before .before .pre .own-shape .places-for-starts)
+
+cast-rank-passes-2 : tie.Need-cast-rank-passes-2 Inv-loop μ-loop
+cast-rank-passes-2 c = omega (arith, c .shared-slice-known15 .given (c .before .before .before .loop .r + 1))
+
+rank-passes-requires : tie.Need-rank-passes-requires Inv-loop μ-loop
+rank-passes-requires c κs = (c .before .before .before .before .before .before .before .before .before .before .before .before .before .before .before .before .before .pre, c .before .before .loop-test .taken, stretch-within _ _ _ _ (c .before .before .before .before .before .before .before .before .before .before .before .before .before .before .before .before .before .pre) (side (c .before .before .before .before .before .before .before .before .before .before .before .before .before .before .before .before .before .args .forward)) _ (c .before .before .loop-test .taken))
+
+returns : tie.Need-returns Inv-loop μ-loop
+returns c = no (rank-fails _ _ _ _ (c .before .before .before .before .before .before .before .before .before .before .before .before .before .before .before .before .before .before .before .pre) _ _ (c .before .before .before .before .loop-test .taken) (c .before .rank-passes .ensures) (not-true _ (c .if1 .taken)))
+
+add-r : tie.Need-add-r Inv-loop μ-loop
+add-r c = omega (arith, c .before .before .before .before .before .before .before .before .before .before .before .before .before .before .before .before .before .before .before .pre .nodes)
+
+loop-less : tie.Need-loop-less Inv-loop μ-loop
+loop-less c = omega arith
+
+loop-again : tie.Need-loop-again Inv-loop μ-loop
+loop-again c = (omega arith, rank-holds _ _ _ _ (c .before .before .before .before .before .before .before .before .before .before .before .before .before .before .before .before .before .before .before .pre) _ _ (c .before .before .before .before .loop-test .taken) (c .before .rank-passes .ensures) (not-false _ (c .if1 .left)) (c .before .before .before .before .before .loop .inv .1))
+
+returns-2 : tie.Need-returns-2 Inv-loop μ-loop
+returns-2 c = yes (λ k low. c .before .loop .inv .1 k (omega (arith, c .loop-test .left)))
+
+pub entries-pass-spec : {M : Type 1} → statement M
+entries-pass-spec =
+    tie.close
+    (tie.spec
+    Inv-loop
+    μ-loop
+    loop-holds
+    mul-rank-passes
+    shared-slice-read-rank-passes
+    cast-rank-passes
+    add-rank-passes
+    mul-rank-passes-2
+    shared-slice-read-rank-passes-2
+    cast-rank-passes-2
+    rank-passes-requires
+    returns
+    add-r
+    loop-less
+    loop-again
+    returns-2)

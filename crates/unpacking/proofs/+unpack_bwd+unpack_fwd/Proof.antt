@@ -1,0 +1,473 @@
+-- The two functions of unpacking meet their contracts. The measure is the rank of the entry's base, which falls with each call.
+use mathlib.Core.Path.{_≡_, _∙_}
+use native.Mathlib.Omega.{arith}
+use borrow.Author.Needs.{needs}
+use lib.ListN.{length-set}
+use Rattle.rules.specs.Columns.{forward, backward, table, entry, rank, begin}
+use Rattle.rules.specs.TableRules.{tail-of, used}
+use Rattle.tables.specs.Lent.{columns, lent}
+use Rattle.unpacking.specs.Written.{written}
+use Rattle.unpacking.proofs.Opened.{put-none, put-one, put-past, base-room, neighbour-room, in-room, out-room, plain, open-in, open-out, in-lower, out-lower, both, first-within, rest-fits, both-within, put-both}
+use Prim.Native.Nat.{ℕ, _<_}
+use borrow.Fn.Kinds.{In}
+use borrow.Fn.PlainCycle.{Measures, is, falls, and}
+use Rattle.unpacking.proofs.unpack_bwd.Reads as unpack-bwd
+use Rattle.unpacking.proofs.unpack_bwd.Kinds as unpack-bwd-kinds
+use Rattle.unpacking.proofs.+unpack_bwd+unpack_fwd.Lts-unpack_bwd as unpack-bwd-lts
+use Rattle.unpacking.proofs.unpack_fwd.Reads as unpack-fwd
+use Rattle.unpacking.proofs.unpack_fwd.Kinds as unpack-fwd-kinds
+use Rattle.unpacking.proofs.+unpack_bwd+unpack_fwd.Lts-unpack_fwd as unpack-fwd-lts
+use Rattle.unpacking.proofs.+unpack_bwd+unpack_fwd.{statement}
+use Rattle.unpacking.proofs.+unpack_bwd+unpack_fwd.Tie.{close}
+
+abbrev μ-unpack-bwd : Measures 14 unpack-bwd-kinds.ps ℕ
+μ-unpack-bwd κs a =
+    let h = lent (a .1 .0 .now) (columns (a .1 .1 .0 .now) (a .1 .1 .1 .0 .now) (a .1 .1 .1 .1 .0 .now) (a .1 .1 .1 .1 .1 .0 .now) (a .1 .1 .1 .1 .1 .1 .0 .now) (a .1 .1 .1 .1 .1 .1 .1 .0 .now)) (columns (a .1 .1 .1 .1 .1 .1 .1 .1 .0 .now) (a .1 .1 .1 .1 .1 .1 .1 .1 .1 .0 .now) (a .1 .1 .1 .1 .1 .1 .1 .1 .1 .1 .0 .now) (a .1 .1 .1 .1 .1 .1 .1 .1 .1 .1 .1 .0 .now) (a .1 .1 .1 .1 .1 .1 .1 .1 .1 .1 .1 .1 .0 .now) (a .1 .1 .1 .1 .1 .1 .1 .1 .1 .1 .1 .1 .1 .0 .now)) in
+    rank h (entry (table h backward) (a .1 .1 .1 .1 .1 .1 .1 .1 .1 .1 .1 .1 .1 .1 .0) .base)
+
+abbrev μ-unpack-fwd : Measures 14 unpack-fwd-kinds.ps ℕ
+μ-unpack-fwd κs a =
+    let h = lent (a .1 .0 .now) (columns (a .1 .1 .0 .now) (a .1 .1 .1 .0 .now) (a .1 .1 .1 .1 .0 .now) (a .1 .1 .1 .1 .1 .0 .now) (a .1 .1 .1 .1 .1 .1 .0 .now) (a .1 .1 .1 .1 .1 .1 .1 .0 .now)) (columns (a .1 .1 .1 .1 .1 .1 .1 .1 .0 .now) (a .1 .1 .1 .1 .1 .1 .1 .1 .1 .0 .now) (a .1 .1 .1 .1 .1 .1 .1 .1 .1 .1 .0 .now) (a .1 .1 .1 .1 .1 .1 .1 .1 .1 .1 .1 .0 .now) (a .1 .1 .1 .1 .1 .1 .1 .1 .1 .1 .1 .1 .0 .now) (a .1 .1 .1 .1 .1 .1 .1 .1 .1 .1 .1 .1 .1 .0 .now)) in
+    rank h (entry (table h forward) (a .1 .1 .1 .1 .1 .1 .1 .1 .1 .1 .1 .1 .1 .1 .0) .base)
+
+abbrev unpack-bwd-at : ℕ → In 14 unpack-bwd-kinds.ps
+unpack-bwd-at t =
+    and 14 unpack-bwd-kinds.ps (is 14 unpack-bwd-kinds.ps μ-unpack-bwd t) unpack-bwd.Pre
+
+abbrev unpack-bwd-below : ℕ → In 14 unpack-bwd-kinds.ps
+unpack-bwd-below t =
+    and 14 unpack-bwd-kinds.ps (falls 14 unpack-bwd-kinds.ps _<_ μ-unpack-bwd t) unpack-bwd.Pre
+
+abbrev unpack-fwd-at : ℕ → In 14 unpack-fwd-kinds.ps
+unpack-fwd-at t =
+    and 14 unpack-fwd-kinds.ps (is 14 unpack-fwd-kinds.ps μ-unpack-fwd t) unpack-fwd.Pre
+
+abbrev unpack-fwd-below : ℕ → In 14 unpack-fwd-kinds.ps
+unpack-fwd-below t =
+    and 14 unpack-fwd-kinds.ps (falls 14 unpack-fwd-kinds.ps _<_ μ-unpack-fwd t) unpack-fwd.Pre
+
+unpack-bwd-returns : (t : ℕ) → unpack-bwd-lts.Need-returns (
+  unpack-bwd-below t,
+  unpack-bwd.Post,
+  unpack-fwd-below t,
+  unpack-fwd.Post,
+) (unpack-bwd-at t) unpack-bwd.Post
+unpack-bwd-returns t c = put-none _ _ _ _ (c .if1 .taken)
+
+unpack-bwd-mul-a : (t : ℕ) → unpack-bwd-lts.Need-mul-a (
+  unpack-bwd-below t,
+  unpack-bwd.Post,
+  unpack-fwd-below t,
+  unpack-fwd.Post,
+) (unpack-bwd-at t) unpack-bwd.Post
+unpack-bwd-mul-a t c = search needs
+
+unpack-bwd-shared-slice-read-a : (t : ℕ) → unpack-bwd-lts.Need-shared-slice-read-a (
+  unpack-bwd-below t,
+  unpack-bwd.Post,
+  unpack-fwd-below t,
+  unpack-fwd.Post,
+) (unpack-bwd-at t) unpack-bwd.Post
+unfolding table
+unpack-bwd-shared-slice-read-a t c = in-room _ _ _ _ (c .before .before .before .before .before .before .before .before .before .before .before .before .before .before .before .before .pre .1 .entry)
+
+unpack-bwd-mul-path : (t : ℕ) → unpack-bwd-lts.Need-mul-path (
+  unpack-bwd-below t,
+  unpack-bwd.Post,
+  unpack-fwd-below t,
+  unpack-fwd.Post,
+) (unpack-bwd-at t) unpack-bwd.Post
+unpack-bwd-mul-path t c = search needs
+
+unpack-bwd-shared-slice-read-path : (t : ℕ) → unpack-bwd-lts.Need-shared-slice-read-path (
+  unpack-bwd-below t,
+  unpack-bwd.Post,
+  unpack-fwd-below t,
+  unpack-fwd.Post,
+) (unpack-bwd-at t) unpack-bwd.Post
+unfolding table
+unpack-bwd-shared-slice-read-path t c = neighbour-room _ _ _ _ (c .before .before .before .before .before .before .before .before .before .before .before .before .before .before .before .before .before .before .before .pre .1 .entry)
+
+unpack-bwd-mul-path-2 : (t : ℕ) → unpack-bwd-lts.Need-mul-path-2 (
+  unpack-bwd-below t,
+  unpack-bwd.Post,
+  unpack-fwd-below t,
+  unpack-fwd.Post,
+) (unpack-bwd-at t) unpack-bwd.Post
+unpack-bwd-mul-path-2 t c = search needs
+
+unpack-bwd-slice-write-path : (t : ℕ) → unpack-bwd-lts.Need-slice-write-path (
+  unpack-bwd-below t,
+  unpack-bwd.Post,
+  unpack-fwd-below t,
+  unpack-fwd.Post,
+) (unpack-bwd-at t) unpack-bwd.Post
+unpack-bwd-slice-write-path t c = c .before .if3 .taken
+
+unpack-bwd-same-length : (t : ℕ) → unpack-bwd-lts.Need-same-length (
+  unpack-bwd-below t,
+  unpack-bwd.Post,
+  unpack-fwd-below t,
+  unpack-fwd.Post,
+) (unpack-bwd-at t) unpack-bwd.Post
+unpack-bwd-same-length t c = search needs
+
+unpack-bwd-returns-2 : (t : ℕ) → unpack-bwd-lts.Need-returns-2 (
+  unpack-bwd-below t,
+  unpack-bwd.Post,
+  unpack-fwd-below t,
+  unpack-fwd.Post,
+) (unpack-bwd-at t) unpack-bwd.Post
+unfolding table tail-of used begin
+unpack-bwd-returns-2 t c = rw (plain _ _ _ _ (c .before .before .before .before .before .before .before .before .before .before .before .before .before .before .before .before .before .before .before .pre .1 .entry) (omega (arith, c .before .before .before .before .before .before .before .before .before .before .before .shared-slice-known8 .given (c .before .before .before .before .before .before .before .before .before .before .before .before .before .before .before .before .before .before .before .args .n))) (c .before .before .if2 .taken)) (put-one _ _ _ _ (c .before .before .before .before .if1 .left))
+
+unpack-bwd-returns-3 : (t : ℕ) → unpack-bwd-lts.Need-returns-3 (
+  unpack-bwd-below t,
+  unpack-bwd.Post,
+  unpack-fwd-below t,
+  unpack-fwd.Post,
+) (unpack-bwd-at t) unpack-bwd.Post
+unfolding table tail-of used begin
+unpack-bwd-returns-3 t c = rw (plain _ _ _ _ (c .before .before .before .before .before .before .before .before .before .before .before .before .before .before .before .before .before .before .pre .1 .entry) (omega (arith, c .before .before .before .before .before .before .before .before .before .before .shared-slice-known8 .given (c .before .before .before .before .before .before .before .before .before .before .before .before .before .before .before .before .before .before .args .n))) (c .before .if2 .taken)) (put-past _ _ _ _ (c .before .before .before .if1 .left) (c .if3 .left))
+
+unpack-bwd-unpack-bwd-requires : (t : ℕ) → unpack-bwd-lts.Need-unpack-bwd-requires (
+  unpack-bwd-below t,
+  unpack-bwd.Post,
+  unpack-fwd-below t,
+  unpack-fwd.Post,
+) (unpack-bwd-at t) unpack-bwd.Post
+unfolding table
+unpack-bwd-unpack-bwd-requires t c κs =
+    let u = c .before .before .before .before .before .before .before .before .before .before .before .before .before .before .before .before .before .before .pre .1 .entry in
+    let m = c .before .if2 .left in
+    (rw (← c .before .before .before .before .before .before .before .before .before .before .before .before .before .before .before .before .before .before .pre .0) (in-lower _ _ _ _ u m), record { entry = open-in _ _ _ _ u m; fits = c .before .before .before .before .before .before .before .before .before .before .before .before .before .before .before .before .before .before .pre .1 .fits })
+
+unpack-bwd-mul-unpack-fwd : (t : ℕ) → unpack-bwd-lts.Need-mul-unpack-fwd (
+  unpack-bwd-below t,
+  unpack-bwd.Post,
+  unpack-fwd-below t,
+  unpack-fwd.Post,
+) (unpack-bwd-at t) unpack-bwd.Post
+unpack-bwd-mul-unpack-fwd t c = search needs
+
+unpack-bwd-shared-slice-read-unpack-fwd :
+    (t : ℕ) → unpack-bwd-lts.Need-shared-slice-read-unpack-fwd (
+      unpack-bwd-below t,
+      unpack-bwd.Post,
+      unpack-fwd-below t,
+      unpack-fwd.Post,
+    ) (unpack-bwd-at t) unpack-bwd.Post
+unfolding table
+unpack-bwd-shared-slice-read-unpack-fwd t c = out-room _ _ _ _ (c .before .before .before .before .before .before .before .before .before .before .before .before .before .before .before .before .before .before .before .before .before .before .pre .1 .entry)
+
+unpack-bwd-add-unpack-fwd : (t : ℕ) → unpack-bwd-lts.Need-add-unpack-fwd (
+  unpack-bwd-below t,
+  unpack-bwd.Post,
+  unpack-fwd-below t,
+  unpack-fwd.Post,
+) (unpack-bwd-at t) unpack-bwd.Post
+unfolding table
+unpack-bwd-add-unpack-fwd t c =
+    let u = c .before .before .before .before .before .before .before .before .before .before .before .before .before .before .before .before .before .before .before .before .before .before .before .pre .1 .entry in
+    let m = c .before .before .before .before .before .before .if2 .left in
+    let p = c .before .before .before .before .unpack-bwd .ensures in
+    omega (arith, first-within _ _ _ (both _ _ _ _ u m) _ _ (c .before .before .before .before .before .before .before .before .before .before .before .before .before .before .before .before .before .before .before .before .before .before .before .pre .1 .fits) _ _ _ p, c .before .before .before .before .before .before .before .before .before .before .before .before .before .before .before .before .before .before .before .before .before .before .before .pre .1 .fits)
+
+unpack-bwd-sub-unpack-fwd : (t : ℕ) → unpack-bwd-lts.Need-sub-unpack-fwd (
+  unpack-bwd-below t,
+  unpack-bwd.Post,
+  unpack-fwd-below t,
+  unpack-fwd.Post,
+) (unpack-bwd-at t) unpack-bwd.Post
+unfolding table
+unpack-bwd-sub-unpack-fwd t c =
+    let u = c .before .before .before .before .before .before .before .before .before .before .before .before .before .before .before .before .before .before .before .before .before .before .before .pre .1 .entry in
+    let m = c .before .before .before .before .before .before .if2 .left in
+    let p = c .before .before .before .before .unpack-bwd .ensures in
+    first-within _ _ _ (both _ _ _ _ u m) _ _ (c .before .before .before .before .before .before .before .before .before .before .before .before .before .before .before .before .before .before .before .before .before .before .before .pre .1 .fits) _ _ _ p
+
+unpack-bwd-unpack-fwd-requires : (t : ℕ) → unpack-bwd-lts.Need-unpack-fwd-requires (
+  unpack-bwd-below t,
+  unpack-bwd.Post,
+  unpack-fwd-below t,
+  unpack-fwd.Post,
+) (unpack-bwd-at t) unpack-bwd.Post
+unfolding table
+unpack-bwd-unpack-fwd-requires t c κs =
+    let u = c .before .before .before .before .before .before .before .before .before .before .before .before .before .before .before .before .before .before .before .before .before .before .before .pre .1 .entry in
+    let m = c .before .before .before .before .before .before .if2 .left in
+    let p = c .before .before .before .before .unpack-bwd .ensures in
+    (rw (← c .before .before .before .before .before .before .before .before .before .before .before .before .before .before .before .before .before .before .before .before .before .before .before .pre .0) (out-lower _ _ _ _ u m), record { entry = open-out _ _ _ _ u m; fits = rest-fits _ _ _ (both _ _ _ _ u m) _ _ (c .before .before .before .before .before .before .before .before .before .before .before .before .before .before .before .before .before .before .before .before .before .before .before .pre .1 .fits) _ _ _ p })
+
+unpack-bwd-add-result : (t : ℕ) → unpack-bwd-lts.Need-add-result (
+  unpack-bwd-below t,
+  unpack-bwd.Post,
+  unpack-fwd-below t,
+  unpack-fwd.Post,
+) (unpack-bwd-at t) unpack-bwd.Post
+unfolding table
+unpack-bwd-add-result t c =
+    let u = c .before .before .before .before .before .before .before .before .before .before .before .before .before .before .before .before .before .before .before .before .before .before .before .before .before .before .pre .1 .entry in
+    let m = c .before .before .before .before .before .before .before .before .before .if2 .left in
+    let p = c .before .before .before .before .before .before .before .unpack-bwd .ensures in
+    omega (arith, both-within _ _ _ (both _ _ _ _ u m) _ _ (c .before .before .before .before .before .before .before .before .before .before .before .before .before .before .before .before .before .before .before .before .before .before .before .before .before .before .pre .1 .fits) _ _ _ p _ _ (c .before .before .unpack-fwd .ensures))
+
+unpack-bwd-same-length-2 : (t : ℕ) → unpack-bwd-lts.Need-same-length-2 (
+  unpack-bwd-below t,
+  unpack-bwd.Post,
+  unpack-fwd-below t,
+  unpack-fwd.Post,
+) (unpack-bwd-at t) unpack-bwd.Post
+unpack-bwd-same-length-2 t c = search needs
+
+unpack-bwd-returns-4 : (t : ℕ) → unpack-bwd-lts.Need-returns-4 (
+  unpack-bwd-below t,
+  unpack-bwd.Post,
+  unpack-fwd-below t,
+  unpack-fwd.Post,
+) (unpack-bwd-at t) unpack-bwd.Post
+unfolding table
+unpack-bwd-returns-4 t c =
+    let u = c .before .before .before .before .before .before .before .before .before .before .before .before .before .before .before .before .before .before .before .before .before .before .before .before .before .before .pre .1 .entry in
+    let m = c .before .before .before .before .before .before .before .before .before .if2 .left in
+    let p = c .before .before .before .before .before .before .before .unpack-bwd .ensures in
+    put-both _ _ _ (both _ _ _ _ u m) _ _ (c .before .before .before .before .before .before .before .before .before .before .before .before .before .before .before .before .before .before .before .before .before .before .before .before .before .before .pre .1 .fits) _ _ _ p _ _ (c .before .before .unpack-fwd .ensures)
+
+unpack-fwd-returns : (t : ℕ) → unpack-fwd-lts.Need-returns (
+  unpack-bwd-below t,
+  unpack-bwd.Post,
+  unpack-fwd-below t,
+  unpack-fwd.Post,
+) (unpack-fwd-at t) unpack-fwd.Post
+unpack-fwd-returns t c = put-none _ _ _ _ (c .if1 .taken)
+
+unpack-fwd-mul-a : (t : ℕ) → unpack-fwd-lts.Need-mul-a (
+  unpack-bwd-below t,
+  unpack-bwd.Post,
+  unpack-fwd-below t,
+  unpack-fwd.Post,
+) (unpack-fwd-at t) unpack-fwd.Post
+unpack-fwd-mul-a t c = search needs
+
+unpack-fwd-shared-slice-read-a : (t : ℕ) → unpack-fwd-lts.Need-shared-slice-read-a (
+  unpack-bwd-below t,
+  unpack-bwd.Post,
+  unpack-fwd-below t,
+  unpack-fwd.Post,
+) (unpack-fwd-at t) unpack-fwd.Post
+unfolding table
+unpack-fwd-shared-slice-read-a t c = in-room _ _ _ _ (c .before .before .before .before .before .before .before .before .before .before .before .before .before .before .before .before .pre .1 .entry)
+
+unpack-fwd-mul-path : (t : ℕ) → unpack-fwd-lts.Need-mul-path (
+  unpack-bwd-below t,
+  unpack-bwd.Post,
+  unpack-fwd-below t,
+  unpack-fwd.Post,
+) (unpack-fwd-at t) unpack-fwd.Post
+unpack-fwd-mul-path t c = search needs
+
+unpack-fwd-shared-slice-read-path : (t : ℕ) → unpack-fwd-lts.Need-shared-slice-read-path (
+  unpack-bwd-below t,
+  unpack-bwd.Post,
+  unpack-fwd-below t,
+  unpack-fwd.Post,
+) (unpack-fwd-at t) unpack-fwd.Post
+unfolding table
+unpack-fwd-shared-slice-read-path t c = base-room _ _ _ _ (c .before .before .before .before .before .before .before .before .before .before .before .before .before .before .before .before .before .before .before .pre .1 .entry)
+
+unpack-fwd-mul-path-2 : (t : ℕ) → unpack-fwd-lts.Need-mul-path-2 (
+  unpack-bwd-below t,
+  unpack-bwd.Post,
+  unpack-fwd-below t,
+  unpack-fwd.Post,
+) (unpack-fwd-at t) unpack-fwd.Post
+unpack-fwd-mul-path-2 t c = search needs
+
+unpack-fwd-slice-write-path : (t : ℕ) → unpack-fwd-lts.Need-slice-write-path (
+  unpack-bwd-below t,
+  unpack-bwd.Post,
+  unpack-fwd-below t,
+  unpack-fwd.Post,
+) (unpack-fwd-at t) unpack-fwd.Post
+unpack-fwd-slice-write-path t c = c .before .if3 .taken
+
+unpack-fwd-same-length : (t : ℕ) → unpack-fwd-lts.Need-same-length (
+  unpack-bwd-below t,
+  unpack-bwd.Post,
+  unpack-fwd-below t,
+  unpack-fwd.Post,
+) (unpack-fwd-at t) unpack-fwd.Post
+unpack-fwd-same-length t c = search needs
+
+unpack-fwd-returns-2 : (t : ℕ) → unpack-fwd-lts.Need-returns-2 (
+  unpack-bwd-below t,
+  unpack-bwd.Post,
+  unpack-fwd-below t,
+  unpack-fwd.Post,
+) (unpack-fwd-at t) unpack-fwd.Post
+unfolding table tail-of used begin
+unpack-fwd-returns-2 t c = rw (plain _ _ _ _ (c .before .before .before .before .before .before .before .before .before .before .before .before .before .before .before .before .before .before .before .pre .1 .entry) (omega (arith, c .before .before .before .before .before .before .before .before .before .before .before .shared-slice-known8 .given (c .before .before .before .before .before .before .before .before .before .before .before .before .before .before .before .before .before .before .before .args .n))) (c .before .before .if2 .taken)) (put-one _ _ _ _ (c .before .before .before .before .if1 .left))
+
+unpack-fwd-returns-3 : (t : ℕ) → unpack-fwd-lts.Need-returns-3 (
+  unpack-bwd-below t,
+  unpack-bwd.Post,
+  unpack-fwd-below t,
+  unpack-fwd.Post,
+) (unpack-fwd-at t) unpack-fwd.Post
+unfolding table tail-of used begin
+unpack-fwd-returns-3 t c = rw (plain _ _ _ _ (c .before .before .before .before .before .before .before .before .before .before .before .before .before .before .before .before .before .before .pre .1 .entry) (omega (arith, c .before .before .before .before .before .before .before .before .before .before .shared-slice-known8 .given (c .before .before .before .before .before .before .before .before .before .before .before .before .before .before .before .before .before .before .args .n))) (c .before .if2 .taken)) (put-past _ _ _ _ (c .before .before .before .if1 .left) (c .if3 .left))
+
+unpack-fwd-unpack-bwd-requires : (t : ℕ) → unpack-fwd-lts.Need-unpack-bwd-requires (
+  unpack-bwd-below t,
+  unpack-bwd.Post,
+  unpack-fwd-below t,
+  unpack-fwd.Post,
+) (unpack-fwd-at t) unpack-fwd.Post
+unfolding table
+unpack-fwd-unpack-bwd-requires t c κs =
+    let u = c .before .before .before .before .before .before .before .before .before .before .before .before .before .before .before .before .before .before .pre .1 .entry in
+    let m = c .before .if2 .left in
+    (rw (← c .before .before .before .before .before .before .before .before .before .before .before .before .before .before .before .before .before .before .pre .0) (in-lower _ _ _ _ u m), record { entry = open-in _ _ _ _ u m; fits = c .before .before .before .before .before .before .before .before .before .before .before .before .before .before .before .before .before .before .pre .1 .fits })
+
+unpack-fwd-mul-unpack-fwd : (t : ℕ) → unpack-fwd-lts.Need-mul-unpack-fwd (
+  unpack-bwd-below t,
+  unpack-bwd.Post,
+  unpack-fwd-below t,
+  unpack-fwd.Post,
+) (unpack-fwd-at t) unpack-fwd.Post
+unpack-fwd-mul-unpack-fwd t c = search needs
+
+unpack-fwd-shared-slice-read-unpack-fwd :
+    (t : ℕ) → unpack-fwd-lts.Need-shared-slice-read-unpack-fwd (
+      unpack-bwd-below t,
+      unpack-bwd.Post,
+      unpack-fwd-below t,
+      unpack-fwd.Post,
+    ) (unpack-fwd-at t) unpack-fwd.Post
+unfolding table
+unpack-fwd-shared-slice-read-unpack-fwd t c = out-room _ _ _ _ (c .before .before .before .before .before .before .before .before .before .before .before .before .before .before .before .before .before .before .before .before .before .before .pre .1 .entry)
+
+unpack-fwd-add-unpack-fwd : (t : ℕ) → unpack-fwd-lts.Need-add-unpack-fwd (
+  unpack-bwd-below t,
+  unpack-bwd.Post,
+  unpack-fwd-below t,
+  unpack-fwd.Post,
+) (unpack-fwd-at t) unpack-fwd.Post
+unfolding table
+unpack-fwd-add-unpack-fwd t c =
+    let u = c .before .before .before .before .before .before .before .before .before .before .before .before .before .before .before .before .before .before .before .before .before .before .before .pre .1 .entry in
+    let m = c .before .before .before .before .before .before .if2 .left in
+    let p = c .before .before .before .before .unpack-bwd .ensures in
+    omega (arith, first-within _ _ _ (both _ _ _ _ u m) _ _ (c .before .before .before .before .before .before .before .before .before .before .before .before .before .before .before .before .before .before .before .before .before .before .before .pre .1 .fits) _ _ _ p, c .before .before .before .before .before .before .before .before .before .before .before .before .before .before .before .before .before .before .before .before .before .before .before .pre .1 .fits)
+
+unpack-fwd-sub-unpack-fwd : (t : ℕ) → unpack-fwd-lts.Need-sub-unpack-fwd (
+  unpack-bwd-below t,
+  unpack-bwd.Post,
+  unpack-fwd-below t,
+  unpack-fwd.Post,
+) (unpack-fwd-at t) unpack-fwd.Post
+unfolding table
+unpack-fwd-sub-unpack-fwd t c =
+    let u = c .before .before .before .before .before .before .before .before .before .before .before .before .before .before .before .before .before .before .before .before .before .before .before .pre .1 .entry in
+    let m = c .before .before .before .before .before .before .if2 .left in
+    let p = c .before .before .before .before .unpack-bwd .ensures in
+    first-within _ _ _ (both _ _ _ _ u m) _ _ (c .before .before .before .before .before .before .before .before .before .before .before .before .before .before .before .before .before .before .before .before .before .before .before .pre .1 .fits) _ _ _ p
+
+unpack-fwd-unpack-fwd-requires : (t : ℕ) → unpack-fwd-lts.Need-unpack-fwd-requires (
+  unpack-bwd-below t,
+  unpack-bwd.Post,
+  unpack-fwd-below t,
+  unpack-fwd.Post,
+) (unpack-fwd-at t) unpack-fwd.Post
+unfolding table
+unpack-fwd-unpack-fwd-requires t c κs =
+    let u = c .before .before .before .before .before .before .before .before .before .before .before .before .before .before .before .before .before .before .before .before .before .before .before .pre .1 .entry in
+    let m = c .before .before .before .before .before .before .if2 .left in
+    let p = c .before .before .before .before .unpack-bwd .ensures in
+    (rw (← c .before .before .before .before .before .before .before .before .before .before .before .before .before .before .before .before .before .before .before .before .before .before .before .pre .0) (out-lower _ _ _ _ u m), record { entry = open-out _ _ _ _ u m; fits = rest-fits _ _ _ (both _ _ _ _ u m) _ _ (c .before .before .before .before .before .before .before .before .before .before .before .before .before .before .before .before .before .before .before .before .before .before .before .pre .1 .fits) _ _ _ p })
+
+unpack-fwd-add-result : (t : ℕ) → unpack-fwd-lts.Need-add-result (
+  unpack-bwd-below t,
+  unpack-bwd.Post,
+  unpack-fwd-below t,
+  unpack-fwd.Post,
+) (unpack-fwd-at t) unpack-fwd.Post
+unfolding table
+unpack-fwd-add-result t c =
+    let u = c .before .before .before .before .before .before .before .before .before .before .before .before .before .before .before .before .before .before .before .before .before .before .before .before .before .before .pre .1 .entry in
+    let m = c .before .before .before .before .before .before .before .before .before .if2 .left in
+    let p = c .before .before .before .before .before .before .before .unpack-bwd .ensures in
+    omega (arith, both-within _ _ _ (both _ _ _ _ u m) _ _ (c .before .before .before .before .before .before .before .before .before .before .before .before .before .before .before .before .before .before .before .before .before .before .before .before .before .before .pre .1 .fits) _ _ _ p _ _ (c .before .before .unpack-fwd .ensures))
+
+unpack-fwd-same-length-2 : (t : ℕ) → unpack-fwd-lts.Need-same-length-2 (
+  unpack-bwd-below t,
+  unpack-bwd.Post,
+  unpack-fwd-below t,
+  unpack-fwd.Post,
+) (unpack-fwd-at t) unpack-fwd.Post
+unpack-fwd-same-length-2 t c = search needs
+
+unpack-fwd-returns-4 : (t : ℕ) → unpack-fwd-lts.Need-returns-4 (
+  unpack-bwd-below t,
+  unpack-bwd.Post,
+  unpack-fwd-below t,
+  unpack-fwd.Post,
+) (unpack-fwd-at t) unpack-fwd.Post
+unfolding table
+unpack-fwd-returns-4 t c =
+    let u = c .before .before .before .before .before .before .before .before .before .before .before .before .before .before .before .before .before .before .before .before .before .before .before .before .before .before .pre .1 .entry in
+    let m = c .before .before .before .before .before .before .before .before .before .if2 .left in
+    let p = c .before .before .before .before .before .before .before .unpack-bwd .ensures in
+    put-both _ _ _ (both _ _ _ _ u m) _ _ (c .before .before .before .before .before .before .before .before .before .before .before .before .before .before .before .before .before .before .before .before .before .before .before .before .before .before .pre .1 .fits) _ _ _ p _ _ (c .before .before .unpack-fwd .ensures)
+
+pub +unpack-bwd+unpack-fwd-spec : {M : Type 1} → statement M
++unpack-bwd+unpack-fwd-spec = close μ-unpack-bwd μ-unpack-fwd (λ t. unpack-bwd-lts.spec (
+  unpack-bwd-below t,
+  unpack-bwd.Post,
+  unpack-fwd-below t,
+  unpack-fwd.Post,
+)
+    (unpack-bwd-at t)
+    unpack-bwd.Post
+    (unpack-bwd-returns t)
+    (unpack-bwd-mul-a t)
+    (unpack-bwd-shared-slice-read-a t)
+    (unpack-bwd-mul-path t)
+    (unpack-bwd-shared-slice-read-path t)
+    (unpack-bwd-mul-path-2 t)
+    (unpack-bwd-slice-write-path t)
+    (unpack-bwd-same-length t)
+    (unpack-bwd-returns-2 t)
+    (unpack-bwd-returns-3 t)
+    (unpack-bwd-unpack-bwd-requires t)
+    (unpack-bwd-mul-unpack-fwd t)
+    (unpack-bwd-shared-slice-read-unpack-fwd t)
+    (unpack-bwd-add-unpack-fwd t)
+    (unpack-bwd-sub-unpack-fwd t)
+    (unpack-bwd-unpack-fwd-requires t)
+    (unpack-bwd-add-result t)
+    (unpack-bwd-same-length-2 t)
+    (unpack-bwd-returns-4 t))
+    λ t. unpack-fwd-lts.spec
+    (unpack-bwd-below t, unpack-bwd.Post, unpack-fwd-below t, unpack-fwd.Post)
+    (unpack-fwd-at t)
+    unpack-fwd.Post
+    (unpack-fwd-returns t)
+    (unpack-fwd-mul-a t)
+    (unpack-fwd-shared-slice-read-a t)
+    (unpack-fwd-mul-path t)
+    (unpack-fwd-shared-slice-read-path t)
+    (unpack-fwd-mul-path-2 t)
+    (unpack-fwd-slice-write-path t)
+    (unpack-fwd-same-length t)
+    (unpack-fwd-returns-2 t)
+    (unpack-fwd-returns-3 t)
+    (unpack-fwd-unpack-bwd-requires t)
+    (unpack-fwd-mul-unpack-fwd t)
+    (unpack-fwd-shared-slice-read-unpack-fwd t)
+    (unpack-fwd-add-unpack-fwd t)
+    (unpack-fwd-sub-unpack-fwd t)
+    (unpack-fwd-unpack-fwd-requires t)
+    (unpack-fwd-add-result t)
+    (unpack-fwd-same-length-2 t)
+    (unpack-fwd-returns-4 t)

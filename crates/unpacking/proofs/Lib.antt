@@ -1,0 +1,2 @@
+-- Laws of unpacking.
+pub mod Opened

@@ -1,0 +1,2 @@
+-- What unpacking asks and leaves.
+pub mod Written
