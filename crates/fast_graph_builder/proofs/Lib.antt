@@ -1,3 +1,4 @@
 -- What the proofs share.
 pub mod Closing
 pub mod Passing
+pub mod Outcome

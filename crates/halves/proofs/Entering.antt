@@ -29,11 +29,11 @@ ends-at (v ∷ vs) [] k e h = absurd (omega arith)
 ends-at (v ∷ vs) (o ∷ os) zero e h = refl
 ends-at (v ∷ vs) (o ∷ os) (suc k) e h = ends-at vs os k (omega arith) (omega arith)
 
-ends-from : (vs os : List ℕ) (k : ℕ) → length os ≡ length vs → k < length vs →
+pub ends-from : (vs os : List ℕ) (k : ℕ) → length os ≡ length vs → k < length vs →
     drop k (zip-ends vs os) ≡ end (getD vs k 0) (getD os k 0) ∷ drop (k + 1) (zip-ends vs os)
 ends-from vs os k e h = rw (add-one k) (ends-at vs os k e h)
 
-ends-length : (vs os : List ℕ) → length os ≡ length vs → length (zip-ends vs os) ≡ length vs
+pub ends-length : (vs os : List ℕ) → length os ≡ length vs → length (zip-ends vs os) ≡ length vs
 unfolding zip-ends
 ends-length [] os e = refl
 ends-length (v ∷ vs) [] e = absurd (omega arith)

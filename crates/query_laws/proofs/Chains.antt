@@ -40,7 +40,7 @@ module _ (f : ℕ) (x : Half) (v : ℕ) where
   root-on t = rw (t, root)
 
 -- a label with an entry came along it
-came-along : {h : Hierarchy} {s : Side} {es : List End} {x : Half} {v : ℕ} {l : Label} → Origin h s es x v l →
+pub came-along : {h : Hierarchy} {s : Side} {es : List End} {x : Half} {v : ℕ} {l : Label} → Origin h s es x v l →
     eqb (l .via) invalid ≡ false → Along h s x v l
 unfolding no-label
 came-along (unlabelled e) t = absurd (eqb-false _ invalid t (ap (λ (k : Label). k .via) e))

@@ -228,7 +228,7 @@ module _ (n : ℕ) (h : Hierarchy) (rules : TableRules n h) (s : Side) (es : Lis
   -- The node is settled.
   module _ (yet : x .settled (i .node) ≡ false) where
     -- settling takes the node's entries off those that may still be offered along
-    fewer-unsettled : unsettled (table h s) (update (i .node) true (x .settled)) (used n (table h s)) + length (places (table h s) (rank h (i .node))) ≤ unsettled (table h s) (x .settled) (used n (table h s))
+    pub fewer-unsettled : unsettled (table h s) (update (i .node) true (x .settled)) (used n (table h s)) + length (places (table h s) (rank h (i .node))) ≤ unsettled (table h s) (x .settled) (used n (table h s))
     fewer-unsettled =
         let w = places-within n h rules s (i .node) (taken-item .node-below) in
         omega (

@@ -1,0 +1,2 @@
+-- Laws of ends.
+pub mod Steps

@@ -1,0 +1,2 @@
+-- Ends as they are handed in.
+pub mod Given

@@ -1,0 +1,2 @@
+-- Laws of the search of a query.
+pub mod Entered

@@ -1,0 +1,2 @@
+-- What the search of a query asks and leaves.
+pub mod Searching

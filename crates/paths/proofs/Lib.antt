@@ -1,0 +1,2 @@
+-- Laws of climbing.
+pub mod Chains

@@ -1,0 +1,2 @@
+-- What climbing asks and leaves.
+pub mod Climbs

@@ -1,0 +1,2 @@
+-- Laws of rounds.
+pub mod Going

@@ -1,0 +1,67 @@
+-- The invariant: the rounds that are left, from here, are all of them from the start.
+use native.Mathlib.Omega.{arith}
+use borrow.Author.Needs.{needs}
+use Rattle.turns.specs.Turning.{of}
+use Rattle.rounds.specs.Rounds.{Running}
+use Rattle.rounds.proofs.Going.{Going, going-first, rounding, some-fuel, going-on, done}
+use Rattle.rounds.proofs.rounds.Statement.{statement}
+use Rattle.rounds.proofs.rounds.Tie as tie
+
+abbrev Inv-loop : tie.InvT-loop
+Inv-loop n ranks fs fm fw bs bm bw fl₀ bl₀ fh₀ bh₀ base f b fuel f₀ b₀ best₀ left₀ fl bl fh bh f' b' best left = (t : Running n ranks fs fm fw bs bm bw fl₀ bl₀ fh₀ bh₀ base f b (of best₀) fuel) → Going n ranks fs fm fw bs bm bw fl₀ bl₀ fh₀ bh₀ base f b (of best₀) fuel t fl bl fh bh f' b' (of best) left
+
+abbrev μ-loop : tie.MeasureT-loop
+μ-loop n ranks fs fm fw bs bm bw fl₀ bl₀ fh₀ bh₀ base f b fuel f₀ b₀ best₀ left₀ fl bl fh bh f' b' best left = left
+
+loop-holds : tie.Need-loop-holds Inv-loop μ-loop
+loop-holds c = λ t. going-first _ _ _ _ _ _ _ _ _ _ _ _ _ _ _ _ _ t
+
+add-loop : tie.Need-add-loop Inv-loop μ-loop
+add-loop c = let g = c .loop .inv (c .before .before .before .before .before .before .before .before .before .before .before .before .pre) in omega (arith, g .fwd .held, g .bwd .held)
+
+round-requires : tie.Need-round-requires Inv-loop μ-loop
+round-requires c κs = rounding _ _ _ _ _ _ _ _ _ _ _ _ _ _ _ _ _ (c .before .before .before .before .before .before .before .before .before .before .before .before .before .before .before .before .before .pre) _ _ _ _ _ _ _ _ (c .before .before .before .before .before .loop .inv (c .before .before .before .before .before .before .before .before .before .before .before .before .before .before .before .before .before .pre))
+
+sub-left : tie.Need-sub-left Inv-loop μ-loop
+sub-left c = some-fuel _ _ _ _ _ _ _ _ _ _ _ _ _ _ _ _ _ (c .before .before .before .before .before .before .before .before .before .before .before .before .before .before .before .before .before .before .before .before .before .before .before .before .before .before .before .pre) _ _ _ _ _ _ _ _ (c .before .before .before .before .before .before .before .before .before .before .before .before .before .before .before .loop .inv (c .before .before .before .before .before .before .before .before .before .before .before .before .before .before .before .before .before .before .before .before .before .before .before .before .before .before .before .pre)) (c .before .before .before .before .before .before .before .before .before .before .before .before .before .before .loop-test .taken)
+
+loop-less : tie.Need-loop-less Inv-loop μ-loop
+loop-less c = omega (arith, some-fuel _ _ _ _ _ _ _ _ _ _ _ _ _ _ _ _ _ (c .before .before .before .before .before .before .before .before .before .before .before .before .before .before .before .before .before .before .before .before .before .before .before .before .before .before .before .pre) _ _ _ _ _ _ _ _ (c .before .before .before .before .before .before .before .before .before .before .before .before .before .before .before .loop .inv (c .before .before .before .before .before .before .before .before .before .before .before .before .before .before .before .before .before .before .before .before .before .before .before .before .before .before .before .pre)) (c .before .before .before .before .before .before .before .before .before .before .before .before .before .before .loop-test .taken))
+
+loop-again : tie.Need-loop-again Inv-loop μ-loop
+loop-again c =
+    λ t.
+    going-on _ _ _ _ _ _ _ _ _ _ _ _ _ _ _ _ _ t _ _ _ _ _ _ _ _ (c .before .before .before .before .before .before .before .before .before .before .before .before .before .before .before .loop .inv t) (c .before .before .before .before .before .before .before .before .before .before .before .before .before .before .loop-test .taken) _ _ _ _ _ _ _ (c .before .before .before .before .before .before .before .before .before .round .kept .1 .1 .1 .1 .1 .1 .1 .1 .0) (c .before .before .before .before .before .before .before .before .before .round .kept .1 .1 .1 .1 .1 .1 .1 .1 .1 .0) (c .before .before .before .before .before .before .before .before .before .round .kept .1 .1 .1 .1 .1 .1 .1 .1 .1 .1 .0) (c .before .before .before .before .before .before .before .before .before .round .kept .1 .1 .1 .1 .1 .1 .1 .1 .1 .1 .1 .0) (c .before .before .before .before .before .before .before .before .before .round .ensures)
+
+same-length : tie.Need-same-length Inv-loop μ-loop
+same-length c = c .before .loop .inv (c .before .before .before .before .before .before .before .before .before .before .before .before .before .pre) .fl-long
+
+same-length-2 : tie.Need-same-length-2 Inv-loop μ-loop
+same-length-2 c = c .before .loop .inv (c .before .before .before .before .before .before .before .before .before .before .before .before .before .pre) .bl-long
+
+same-length-3 : tie.Need-same-length-3 Inv-loop μ-loop
+same-length-3 c = c .before .loop .inv (c .before .before .before .before .before .before .before .before .before .before .before .before .before .pre) .fh-long
+
+same-length-4 : tie.Need-same-length-4 Inv-loop μ-loop
+same-length-4 c = c .before .loop .inv (c .before .before .before .before .before .before .before .before .before .before .before .before .before .pre) .bh-long
+
+returns : tie.Need-returns Inv-loop μ-loop
+returns c = record { is = λ t. done _ _ _ _ _ _ _ _ _ _ _ _ _ _ _ _ _ t _ _ _ _ _ _ _ _ (c .before .loop .inv t) (c .loop-test .left) }
+
+pub rounds-spec : {M : Type 1} → statement M
+rounds-spec =
+    tie.close
+    (tie.spec
+    Inv-loop
+    μ-loop
+    loop-holds
+    add-loop
+    round-requires
+    sub-left
+    loop-less
+    loop-again
+    same-length
+    same-length-2
+    same-length-3
+    same-length-4
+    returns)

@@ -1,0 +1,2 @@
+-- What rounds ask and leave.
+pub mod Rounds

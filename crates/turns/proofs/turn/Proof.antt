@@ -1,0 +1,270 @@
+-- A turn. The outer invariant: labels and best are as at the start, since the item that changes them ends the turn, and what is
+-- left of the turn, from here, is the whole of it. The inner one: what is left of the scan decides as all of it.
+use mathlib.Core.List.{List}
+use mathlib.Core.Path.{_≡_, refl, sym, ap, _∙_}
+use Prim.Native.Nat.{ℕ, _+_, _-_, _≤_, _<_}
+use native.Mathlib.Omega.{arith}
+use borrow.Author.Needs.{needs}
+use borrow.Author.Tests.{lt-ltb, le-ltb}
+use lib.Dec.{ltb}
+use lib.ListN.{length, getD}
+use Rattle.rules.specs.Lists.{range}
+use Rattle.rules.specs.Query.{Best, Half, improve}
+use Rattle.halves.specs.Labels.{stamp, seen, half}
+use Rattle.turns.specs.declared.Best.{Best as Held}
+use Rattle.turns.specs.Turning.{of, Turning}
+use Rattle.turns.proofs.Reading.{lower-by, hit, miss, none-left}
+use Rattle.turns.proofs.Turning.{Going, going-first, done-empty, r-below, starts-long, other-starts-long, ranks-long, scan-neighbour, scan-weight, scan-label, node-below, label-fits, facing-fits, node-small, meeting-fits, next-settled, done-heavy, next-stalled, settling, done-settles}
+use Rattle.turns.proofs.turn.Statement.{statement}
+use Rattle.turns.proofs.turn.Tie as tie
+
+abbrev Inv-loop : tie.InvT-loop
+Inv-loop n ranks starts neighbours weights other-starts other-neighbours other-weights labels heap facing base len len' best v weight r end e₀ e =
+    (e₀ ≤ e) ×
+    (lower-by labels base other-neighbours other-weights weight (range e end) ≡ lower-by labels base other-neighbours other-weights weight (range e₀ end))
+
+abbrev μ-loop : tie.MeasureT-loop
+μ-loop n ranks starts neighbours weights other-starts other-neighbours other-weights labels heap facing base len len' best v weight r end e₀ e = end - e
+
+abbrev Inv-outer : tie.InvT-outer
+Inv-outer n ranks starts neighbours weights other-starts other-neighbours other-weights labels₀ heap₀ facing base len len₀ best₀ labels heap len' best =
+    (labels ≡ labels₀) × (best ≡ best₀) ×
+    ((t : Turning n ranks starts neighbours weights other-starts other-neighbours other-weights labels₀ heap₀ facing base len (best₀ .sum)) → Going n ranks starts neighbours weights other-starts other-neighbours other-weights labels₀ heap₀ facing base len (of best₀) t heap len')
+
+abbrev μ-outer : tie.MeasureT-outer
+μ-outer n ranks starts neighbours weights other-starts other-neighbours other-weights labels₀ heap₀ facing base len len₀ best₀ labels heap len' best = len'
+
+outer-holds : tie.Need-outer-holds Inv-loop μ-loop Inv-outer μ-outer
+outer-holds c = (refl, refl, λ t. going-first _ _ _ _ _ _ _ _ _ _ _ _ _ (of (c .before .before .before .before .before .before .before .before .before .before .args .best)) t)
+
+pop-requires : tie.Need-pop-requires Inv-loop μ-loop Inv-outer μ-outer
+pop-requires c κs = let g = c .before .before .outer .inv .2 (c .before .before .before .before .before .before .before .before .before .before .before .before .before .pre) in (c .before .outer-test .taken, g .held, g .ordered)
+
+sub-len : tie.Need-sub-len Inv-loop μ-loop Inv-outer μ-outer
+sub-len c = omega (arith, c .before .before .before .before .outer-test .taken)
+
+is-settled-requires : tie.Need-is-settled-requires Inv-loop μ-loop Inv-outer μ-outer
+is-settled-requires c κs = omega (arith, label-fits _ _ _ _ _ _ _ _ _ _ _ _ _ (of (c .before .before .before .before .before .before .before .before .before .before .before .before .before .before .before .before .before .args .best)) (c .before .before .before .before .before .before .before .before .before .before .before .before .before .before .before .before .before .pre) _ _ (c .before .before .before .before .before .before .outer .inv .2 (c .before .before .before .before .before .before .before .before .before .before .before .before .before .before .before .before .before .pre)) (c .before .before .before .before .before .outer-test .taken) _ _ (c .before .before .before .pop .ensures), ap length (c .before .before .before .before .before .before .outer .inv .0))
+
+outer-less : tie.Need-outer-less Inv-loop μ-loop Inv-outer μ-outer
+outer-less c = omega (arith, c .before .before .before .before .before .before .before .outer-test .taken)
+
+outer-again : tie.Need-outer-again Inv-loop μ-loop Inv-outer μ-outer
+outer-again c = (c .before .before .before .before .before .before .before .before .outer .inv .0, c .before .before .before .before .before .before .before .before .outer .inv .1, λ t. next-settled _ _ _ _ _ _ _ _ _ _ _ _ _ (of (c .before .before .before .before .before .before .before .before .before .before .before .before .before .before .before .before .before .before .before .args .best)) (t) _ _ (c .before .before .before .before .before .before .before .before .outer .inv .2 (t)) (c .before .before .before .before .before .before .before .outer-test .taken) _ _ (c .before .before .before .before .before .pop .ensures) (ap (λ (l : List ℕ). ltb (c .before .before .before .before .before .before .before .before .before .before .before .before .before .before .before .before .before .before .before .args .base) (stamp l (c .before .before .before .before .before .pop .result .node))) (sym (c .before .before .before .before .before .before .before .before .outer .inv .0)) ∙ sym (c .before .is-settled .ensures) ∙ c .if1 .taken))
+
+mul-r : tie.Need-mul-r Inv-loop μ-loop Inv-outer μ-outer
+mul-r c = omega (arith, ranks-long _ _ _ _ _ _ _ _ _ _ _ _ _ (of (c .before .before .before .before .before .before .before .before .before .before .before .before .before .before .before .before .before .before .before .before .before .args .best)) (c .before .before .before .before .before .before .before .before .before .before .before .before .before .before .before .before .before .before .before .before .before .pre) _ (node-below _ _ _ _ _ _ _ _ _ _ _ _ _ (of (c .before .before .before .before .before .before .before .before .before .before .before .before .before .before .before .before .before .before .before .before .before .args .best)) (c .before .before .before .before .before .before .before .before .before .before .before .before .before .before .before .before .before .before .before .before .before .pre) _ _ (c .before .before .before .before .before .before .before .before .before .before .outer .inv .2 (c .before .before .before .before .before .before .before .before .before .before .before .before .before .before .before .before .before .before .before .before .before .pre)) (c .before .before .before .before .before .before .before .before .before .outer-test .taken) _ _ (c .before .before .before .before .before .before .before .pop .ensures)))
+
+shared-slice-read-r : tie.Need-shared-slice-read-r Inv-loop μ-loop Inv-outer μ-outer
+shared-slice-read-r c = ranks-long _ _ _ _ _ _ _ _ _ _ _ _ _ (of (c .before .before .before .before .before .before .before .before .before .before .before .before .before .before .before .before .before .before .before .before .before .before .args .best)) (c .before .before .before .before .before .before .before .before .before .before .before .before .before .before .before .before .before .before .before .before .before .before .pre) _ (node-below _ _ _ _ _ _ _ _ _ _ _ _ _ (of (c .before .before .before .before .before .before .before .before .before .before .before .before .before .before .before .before .before .before .before .before .before .before .args .best)) (c .before .before .before .before .before .before .before .before .before .before .before .before .before .before .before .before .before .before .before .before .before .before .pre) _ _ (c .before .before .before .before .before .before .before .before .before .before .before .outer .inv .2 (c .before .before .before .before .before .before .before .before .before .before .before .before .before .before .before .before .before .before .before .before .before .before .pre)) (c .before .before .before .before .before .before .before .before .before .before .outer-test .taken) _ _ (c .before .before .before .before .before .before .before .before .pop .ensures))
+
+cast-r : tie.Need-cast-r Inv-loop μ-loop Inv-outer μ-outer
+cast-r c = omega (arith, c .shared-slice-known9 .given (c .before .before .before .before .before .before .before .before .pop .result .node))
+
+add-end : tie.Need-add-end Inv-loop μ-loop Inv-outer μ-outer
+add-end c = omega (arith, r-below _ _ _ _ _ _ _ _ _ _ _ _ _ (of (c .before .before .before .before .before .before .before .before .before .before .before .before .before .before .before .before .before .before .before .before .before .before .args .best)) (c .before .before .before .before .before .before .before .before .before .before .before .before .before .before .before .before .before .before .before .before .before .before .pre) _ (node-below _ _ _ _ _ _ _ _ _ _ _ _ _ (of (c .before .before .before .before .before .before .before .before .before .before .before .before .before .before .before .before .before .before .before .before .before .before .args .best)) (c .before .before .before .before .before .before .before .before .before .before .before .before .before .before .before .before .before .before .before .before .before .before .pre) _ _ (c .before .before .before .before .before .before .before .before .before .before .before .outer .inv .2 (c .before .before .before .before .before .before .before .before .before .before .before .before .before .before .before .before .before .before .before .before .before .before .pre)) (c .before .before .before .before .before .before .before .before .before .before .outer-test .taken) _ _ (c .before .before .before .before .before .before .before .before .pop .ensures)), c .before .before .before .before .before .before .before .before .before .before .before .before .before .before .before .before .before .before .before .before .before .before .pre .rules .nodes)
+
+mul-end : tie.Need-mul-end Inv-loop μ-loop Inv-outer μ-outer
+mul-end c = omega (arith, r-below _ _ _ _ _ _ _ _ _ _ _ _ _ (of (c .before .before .before .before .before .before .before .before .before .before .before .before .before .before .before .before .before .before .before .before .before .before .args .best)) (c .before .before .before .before .before .before .before .before .before .before .before .before .before .before .before .before .before .before .before .before .before .before .pre) _ (node-below _ _ _ _ _ _ _ _ _ _ _ _ _ (of (c .before .before .before .before .before .before .before .before .before .before .before .before .before .before .before .before .before .before .before .before .before .before .args .best)) (c .before .before .before .before .before .before .before .before .before .before .before .before .before .before .before .before .before .before .before .before .before .before .pre) _ _ (c .before .before .before .before .before .before .before .before .before .before .before .outer .inv .2 (c .before .before .before .before .before .before .before .before .before .before .before .before .before .before .before .before .before .before .before .before .before .before .pre)) (c .before .before .before .before .before .before .before .before .before .before .outer-test .taken) _ _ (c .before .before .before .before .before .before .before .before .pop .ensures)), c .before .before .before .before .before .before .before .before .before .before .before .before .before .before .before .before .before .before .before .before .before .before .pre .rules .nodes)
+
+shared-slice-read-end : tie.Need-shared-slice-read-end Inv-loop μ-loop Inv-outer μ-outer
+shared-slice-read-end c = other-starts-long _ _ _ _ _ _ _ _ _ _ _ _ _ (of (c .before .before .before .before .before .before .before .before .before .before .before .before .before .before .before .before .before .before .before .before .before .before .before .args .best)) (c .before .before .before .before .before .before .before .before .before .before .before .before .before .before .before .before .before .before .before .before .before .before .before .pre) _ (node-below _ _ _ _ _ _ _ _ _ _ _ _ _ (of (c .before .before .before .before .before .before .before .before .before .before .before .before .before .before .before .before .before .before .before .before .before .before .before .args .best)) (c .before .before .before .before .before .before .before .before .before .before .before .before .before .before .before .before .before .before .before .before .before .before .before .pre) _ _ (c .before .before .before .before .before .before .before .before .before .before .before .before .outer .inv .2 (c .before .before .before .before .before .before .before .before .before .before .before .before .before .before .before .before .before .before .before .before .before .before .before .pre)) (c .before .before .before .before .before .before .before .before .before .before .before .outer-test .taken) _ _ (c .before .before .before .before .before .before .before .before .before .pop .ensures))
+
+cast-end : tie.Need-cast-end Inv-loop μ-loop Inv-outer μ-outer
+cast-end c = omega (arith, c .shared-slice-known10 .given ((getD (c .before .before .before .before .before .before .before .before .before .before .before .before .before .before .before .before .before .before .before .before .before .before .before .args .ranks .now) (c .before .before .before .before .before .before .before .before .before .pop .result .node) 0) + 1))
+
+mul-e : tie.Need-mul-e Inv-loop μ-loop Inv-outer μ-outer
+mul-e c = omega (arith, r-below _ _ _ _ _ _ _ _ _ _ _ _ _ (of (c .before .before .before .before .before .before .before .before .before .before .before .before .before .before .before .before .before .before .before .before .before .before .before .args .best)) (c .before .before .before .before .before .before .before .before .before .before .before .before .before .before .before .before .before .before .before .before .before .before .before .pre) _ (node-below _ _ _ _ _ _ _ _ _ _ _ _ _ (of (c .before .before .before .before .before .before .before .before .before .before .before .before .before .before .before .before .before .before .before .before .before .before .before .args .best)) (c .before .before .before .before .before .before .before .before .before .before .before .before .before .before .before .before .before .before .before .before .before .before .before .pre) _ _ (c .before .before .before .before .before .before .before .before .before .before .before .before .outer .inv .2 (c .before .before .before .before .before .before .before .before .before .before .before .before .before .before .before .before .before .before .before .before .before .before .before .pre)) (c .before .before .before .before .before .before .before .before .before .before .before .outer-test .taken) _ _ (c .before .before .before .before .before .before .before .before .before .pop .ensures)), c .before .before .before .before .before .before .before .before .before .before .before .before .before .before .before .before .before .before .before .before .before .before .before .pre .rules .nodes)
+
+shared-slice-read-e : tie.Need-shared-slice-read-e Inv-loop μ-loop Inv-outer μ-outer
+shared-slice-read-e c = omega (arith, other-starts-long _ _ _ _ _ _ _ _ _ _ _ _ _ (of (c .before .before .before .before .before .before .before .before .before .before .before .before .before .before .before .before .before .before .before .before .before .before .before .before .args .best)) (c .before .before .before .before .before .before .before .before .before .before .before .before .before .before .before .before .before .before .before .before .before .before .before .before .pre) _ (node-below _ _ _ _ _ _ _ _ _ _ _ _ _ (of (c .before .before .before .before .before .before .before .before .before .before .before .before .before .before .before .before .before .before .before .before .before .before .before .before .args .best)) (c .before .before .before .before .before .before .before .before .before .before .before .before .before .before .before .before .before .before .before .before .before .before .before .before .pre) _ _ (c .before .before .before .before .before .before .before .before .before .before .before .before .before .outer .inv .2 (c .before .before .before .before .before .before .before .before .before .before .before .before .before .before .before .before .before .before .before .before .before .before .before .before .pre)) (c .before .before .before .before .before .before .before .before .before .before .before .before .outer-test .taken) _ _ (c .before .before .before .before .before .before .before .before .before .before .pop .ensures)))
+
+cast-e : tie.Need-cast-e Inv-loop μ-loop Inv-outer μ-outer
+cast-e c = omega (arith, c .shared-slice-known11 .given (getD (c .before .before .before .before .before .before .before .before .before .before .before .before .before .before .before .before .before .before .before .before .before .before .before .before .args .ranks .now) (c .before .before .before .before .before .before .before .before .before .before .pop .result .node) 0))
+
+loop-holds : tie.Need-loop-holds Inv-loop μ-loop Inv-outer μ-outer
+loop-holds c = (omega arith, refl)
+
+mul-get-weight : tie.Need-mul-get-weight Inv-loop μ-loop Inv-outer μ-outer
+mul-get-weight c = omega (arith, c .before .loop-test .taken, c .before .before .before .before .shared-slice-known10 .given ((getD (c .before .before .before .before .before .before .before .before .before .before .before .before .before .before .before .before .before .before .before .before .before .before .before .before .before .before .before .args .ranks .now) (c .before .before .before .before .before .before .before .before .before .before .before .before .before .pop .result .node) 0) + 1))
+
+shared-slice-read-get-weight :
+    tie.Need-shared-slice-read-get-weight Inv-loop μ-loop Inv-outer μ-outer
+shared-slice-read-get-weight c = scan-neighbour _ _ _ _ _ _ _ _ _ _ _ _ _ (of (c .before .before .before .before .before .before .before .before .before .before .before .before .before .before .before .before .before .before .before .before .before .before .before .before .before .before .before .before .args .best)) (c .before .before .before .before .before .before .before .before .before .before .before .before .before .before .before .before .before .before .before .before .before .before .before .before .before .before .before .before .pre) _ (node-below _ _ _ _ _ _ _ _ _ _ _ _ _ (of (c .before .before .before .before .before .before .before .before .before .before .before .before .before .before .before .before .before .before .before .before .before .before .before .before .before .before .before .before .args .best)) (c .before .before .before .before .before .before .before .before .before .before .before .before .before .before .before .before .before .before .before .before .before .before .before .before .before .before .before .before .pre) _ _ (c .before .before .before .before .before .before .before .before .before .before .before .before .before .before .before .before .before .outer .inv .2 (c .before .before .before .before .before .before .before .before .before .before .before .before .before .before .before .before .before .before .before .before .before .before .before .before .before .before .before .before .pre)) (c .before .before .before .before .before .before .before .before .before .before .before .before .before .before .before .before .outer-test .taken) _ _ (c .before .before .before .before .before .before .before .before .before .before .before .before .before .before .pop .ensures)) _ (c .before .before .before .loop .inv .0) (c .before .before .loop-test .taken)
+
+cast-get-weight : tie.Need-cast-get-weight Inv-loop μ-loop Inv-outer μ-outer
+cast-get-weight c = omega (arith, c .shared-slice-known12 .given (c .before .before .before .loop .e))
+
+get-weight-requires : tie.Need-get-weight-requires Inv-loop μ-loop Inv-outer μ-outer
+get-weight-requires c κs = omega (arith, scan-label _ _ _ _ _ _ _ _ _ _ _ _ _ (of (c .before .before .before .before .before .before .before .before .before .before .before .before .before .before .before .before .before .before .before .before .before .before .before .before .before .before .before .before .args .best)) (c .before .before .before .before .before .before .before .before .before .before .before .before .before .before .before .before .before .before .before .before .before .before .before .before .before .before .before .before .pre) _ (node-below _ _ _ _ _ _ _ _ _ _ _ _ _ (of (c .before .before .before .before .before .before .before .before .before .before .before .before .before .before .before .before .before .before .before .before .before .before .before .before .before .before .before .before .args .best)) (c .before .before .before .before .before .before .before .before .before .before .before .before .before .before .before .before .before .before .before .before .before .before .before .before .before .before .before .before .pre) _ _ (c .before .before .before .before .before .before .before .before .before .before .before .before .before .before .before .before .before .outer .inv .2 (c .before .before .before .before .before .before .before .before .before .before .before .before .before .before .before .before .before .before .before .before .before .before .before .before .before .before .before .before .pre)) (c .before .before .before .before .before .before .before .before .before .before .before .before .before .before .before .before .outer-test .taken) _ _ (c .before .before .before .before .before .before .before .before .before .before .before .before .before .before .pop .ensures)) _ (c .before .before .before .loop .inv .0) (c .before .before .loop-test .taken), ap length (c .before .before .before .before .before .before .before .before .before .before .before .before .before .before .before .before .before .outer .inv .0))
+
+mul-less : tie.Need-mul-less Inv-loop μ-loop Inv-outer μ-outer
+mul-less c = omega (arith, c .before .before .before .loop-test .taken, c .before .before .before .before .before .before .shared-slice-known10 .given ((getD (c .before .before .before .before .before .before .before .before .before .before .before .before .before .before .before .before .before .before .before .before .before .before .before .before .before .before .before .before .before .args .ranks .now) (c .before .before .before .before .before .before .before .before .before .before .before .before .before .before .before .pop .result .node) 0) + 1))
+
+shared-slice-read-less : tie.Need-shared-slice-read-less Inv-loop μ-loop Inv-outer μ-outer
+shared-slice-read-less c = scan-weight _ _ _ _ _ _ _ _ _ _ _ _ _ (of (c .before .before .before .before .before .before .before .before .before .before .before .before .before .before .before .before .before .before .before .before .before .before .before .before .before .before .before .before .before .before .args .best)) (c .before .before .before .before .before .before .before .before .before .before .before .before .before .before .before .before .before .before .before .before .before .before .before .before .before .before .before .before .before .before .pre) _ (node-below _ _ _ _ _ _ _ _ _ _ _ _ _ (of (c .before .before .before .before .before .before .before .before .before .before .before .before .before .before .before .before .before .before .before .before .before .before .before .before .before .before .before .before .before .before .args .best)) (c .before .before .before .before .before .before .before .before .before .before .before .before .before .before .before .before .before .before .before .before .before .before .before .before .before .before .before .before .before .before .pre) _ _ (c .before .before .before .before .before .before .before .before .before .before .before .before .before .before .before .before .before .before .before .outer .inv .2 (c .before .before .before .before .before .before .before .before .before .before .before .before .before .before .before .before .before .before .before .before .before .before .before .before .before .before .before .before .before .before .pre)) (c .before .before .before .before .before .before .before .before .before .before .before .before .before .before .before .before .before .before .outer-test .taken) _ _ (c .before .before .before .before .before .before .before .before .before .before .before .before .before .before .before .before .pop .ensures)) _ (c .before .before .before .before .before .loop .inv .0) (c .before .before .before .before .loop-test .taken)
+
+less-requires : tie.Need-less-requires Inv-loop μ-loop Inv-outer μ-outer
+less-requires c κs = search needs
+
+outer-less-2 : tie.Need-outer-less-2 Inv-loop μ-loop Inv-outer μ-outer
+outer-less-2 c = omega (arith, c .before .before .before .before .before .before .before .before .before .before .before .before .before .before .before .before .before .before .before .before .outer-test .taken)
+
+outer-again-2 : tie.Need-outer-again-2 Inv-loop μ-loop Inv-outer μ-outer
+outer-again-2 c = (
+  c .before .before .before .before .before .before .before .before .before .before .before .before .before .before .before .before .before .before .before .before .before .outer .inv .0,
+  c .before .before .before .before .before .before .before .before .before .before .before .before .before .before .before .before .before .before .before .before .before .outer .inv .1,
+  λ t.
+      next-stalled _ _ _ _ _ _ _ _ _ _ _ _ _ (of (c .before .before .before .before .before .before .before .before .before .before .before .before .before .before .before .before .before .before .before .before .before .before .before .before .before .before .before .before .before .before .before .before .args .best)) (t) _ _ (c .before .before .before .before .before .before .before .before .before .before .before .before .before .before .before .before .before .before .before .before .before .outer .inv .2 (t)) (c .before .before .before .before .before .before .before .before .before .before .before .before .before .before .before .before .before .before .before .before .outer-test .taken) _ _ (c .before .before .before .before .before .before .before .before .before .before .before .before .before .before .before .before .before .before .pop .ensures) (ap (λ (l : List ℕ). ltb (c .before .before .before .before .before .before .before .before .before .before .before .before .before .before .before .before .before .before .before .before .before .before .before .before .before .before .before .before .before .before .before .before .args .base) (stamp l (c .before .before .before .before .before .before .before .before .before .before .before .before .before .before .before .before .before .before .pop .result .node))) (sym (c .before .before .before .before .before .before .before .before .before .before .before .before .before .before .before .before .before .before .before .before .before .outer .inv .0)) ∙ sym (c .before .before .before .before .before .before .before .before .before .before .before .before .before .before .is-settled .ensures) ∙ c .before .before .before .before .before .before .before .before .before .before .before .before .before .if1 .left) (le-ltb (c .before .before .before .before .before .before .before .before .before .before .before .before .before .before .before .before .before .before .before .before .before .before .before .before .before .before .before .before .before .before .before .before .args .best .sum) (c .before .before .before .before .before .before .before .before .before .before .before .before .before .before .before .before .before .before .pop .result .weight) (omega (arith, c .before .before .before .before .before .before .before .before .before .before .before .if2 .left, ap (λ (x : Held). x .sum) (c .before .before .before .before .before .before .before .before .before .before .before .before .before .before .before .before .before .before .before .before .before .outer .inv .1))))
+      (ap (λ (l : List ℕ). lower-by l (c .before .before .before .before .before .before .before .before .before .before .before .before .before .before .before .before .before .before .before .before .before .before .before .before .before .before .before .before .before .before .before .before .args .base) (c .before .before .before .before .before .before .before .before .before .before .before .before .before .before .before .before .before .before .before .before .before .before .before .before .before .before .before .before .before .before .before .before .args .other-neighbours .now) (c .before .before .before .before .before .before .before .before .before .before .before .before .before .before .before .before .before .before .before .before .before .before .before .before .before .before .before .before .before .before .before .before .args .other-weights .now) (c .before .before .before .before .before .before .before .before .before .before .before .before .before .before .before .before .before .before .pop .result .weight) (range (getD (c .before .before .before .before .before .before .before .before .before .before .before .before .before .before .before .before .before .before .before .before .before .before .before .before .before .before .before .before .before .before .before .before .args .other-starts .now) (getD (c .before .before .before .before .before .before .before .before .before .before .before .before .before .before .before .before .before .before .before .before .before .before .before .before .before .before .before .before .before .before .before .before .args .ranks .now) (c .before .before .before .before .before .before .before .before .before .before .before .before .before .before .before .before .before .before .pop .result .node) 0) 0) (getD (c .before .before .before .before .before .before .before .before .before .before .before .before .before .before .before .before .before .before .before .before .before .before .before .before .before .before .before .before .before .before .before .before .args .other-starts .now) ((getD (c .before .before .before .before .before .before .before .before .before .before .before .before .before .before .before .before .before .before .before .before .before .before .before .before .before .before .before .before .before .before .before .before .args .ranks .now) (c .before .before .before .before .before .before .before .before .before .before .before .before .before .before .before .before .before .before .pop .result .node) 0) + 1) 0))) (sym (c .before .before .before .before .before .before .before .before .before .before .before .before .before .before .before .before .before .before .before .before .before .outer .inv .0)) ∙ sym (c .before .before .before .before .before .before .before .loop .inv .1) ∙ hit _ _ _ _ _ _ _ (c .before .before .before .before .before .before .loop-test .taken) (ap (λ (w : ℕ). ltb (w + getD (c .before .before .before .before .before .before .before .before .before .before .before .before .before .before .before .before .before .before .before .before .before .before .before .before .before .before .before .before .before .before .before .before .args .other-weights .now) (c .before .before .before .before .before .before .before .loop .e) 0) (c .before .before .before .before .before .before .before .before .before .before .before .before .before .before .before .before .before .before .pop .result .weight)) (sym (c .before .before .before .get-weight .ensures)) ∙ sym (c .before .less .ensures) ∙ c .if3 .taken)),
+)
+
+add-e : tie.Need-add-e Inv-loop μ-loop Inv-outer μ-outer
+add-e c = omega (arith, c .before .before .before .before .before .before .loop-test .taken, c .before .before .before .before .before .before .before .before .before .shared-slice-known10 .given ((getD (c .before .before .before .before .before .before .before .before .before .before .before .before .before .before .before .before .before .before .before .before .before .before .before .before .before .before .before .before .before .before .before .before .args .ranks .now) (c .before .before .before .before .before .before .before .before .before .before .before .before .before .before .before .before .before .before .pop .result .node) 0) + 1))
+
+loop-less : tie.Need-loop-less Inv-loop μ-loop Inv-outer μ-outer
+loop-less c = omega (arith, c .before .before .before .before .before .before .loop-test .taken)
+
+loop-again : tie.Need-loop-again Inv-loop μ-loop Inv-outer μ-outer
+loop-again c = (omega (arith, c .before .before .before .before .before .before .before .loop .inv .0), miss _ _ _ _ _ _ _ (c .before .before .before .before .before .before .loop-test .taken) (ap (λ (w : ℕ). ltb (w + getD (c .before .before .before .before .before .before .before .before .before .before .before .before .before .before .before .before .before .before .before .before .before .before .before .before .before .before .before .before .before .before .before .before .args .other-weights .now) (c .before .before .before .before .before .before .before .loop .e) 0) (c .before .before .before .before .before .before .before .before .before .before .before .before .before .before .before .before .before .before .pop .result .weight)) (sym (c .before .before .before .get-weight .ensures)) ∙ sym (c .before .less .ensures) ∙ c .if3 .left) ∙ c .before .before .before .before .before .before .before .loop .inv .1)
+
+mul-settle : tie.Need-mul-settle Inv-loop μ-loop Inv-outer μ-outer
+mul-settle c = omega (arith, r-below _ _ _ _ _ _ _ _ _ _ _ _ _ (of (c .before .before .before .before .before .before .before .before .before .before .before .before .before .before .before .before .before .before .before .before .before .before .before .before .before .before .before .before .args .best)) (c .before .before .before .before .before .before .before .before .before .before .before .before .before .before .before .before .before .before .before .before .before .before .before .before .before .before .before .before .pre) _ (node-below _ _ _ _ _ _ _ _ _ _ _ _ _ (of (c .before .before .before .before .before .before .before .before .before .before .before .before .before .before .before .before .before .before .before .before .before .before .before .before .before .before .before .before .args .best)) (c .before .before .before .before .before .before .before .before .before .before .before .before .before .before .before .before .before .before .before .before .before .before .before .before .before .before .before .before .pre) _ _ (c .before .before .before .before .before .before .before .before .before .before .before .before .before .before .before .before .before .outer .inv .2 (c .before .before .before .before .before .before .before .before .before .before .before .before .before .before .before .before .before .before .before .before .before .before .before .before .before .before .before .before .pre)) (c .before .before .before .before .before .before .before .before .before .before .before .before .before .before .before .before .outer-test .taken) _ _ (c .before .before .before .before .before .before .before .before .before .before .before .before .before .before .pop .ensures)), c .before .before .before .before .before .before .before .before .before .before .before .before .before .before .before .before .before .before .before .before .before .before .before .before .before .before .before .before .pre .rules .nodes)
+
+shared-slice-read-settle : tie.Need-shared-slice-read-settle Inv-loop μ-loop Inv-outer μ-outer
+shared-slice-read-settle c = omega (arith, starts-long _ _ _ _ _ _ _ _ _ _ _ _ _ (of (c .before .before .before .before .before .before .before .before .before .before .before .before .before .before .before .before .before .before .before .before .before .before .before .before .before .before .before .before .before .args .best)) (c .before .before .before .before .before .before .before .before .before .before .before .before .before .before .before .before .before .before .before .before .before .before .before .before .before .before .before .before .before .pre) _ (node-below _ _ _ _ _ _ _ _ _ _ _ _ _ (of (c .before .before .before .before .before .before .before .before .before .before .before .before .before .before .before .before .before .before .before .before .before .before .before .before .before .before .before .before .before .args .best)) (c .before .before .before .before .before .before .before .before .before .before .before .before .before .before .before .before .before .before .before .before .before .before .before .before .before .before .before .before .before .pre) _ _ (c .before .before .before .before .before .before .before .before .before .before .before .before .before .before .before .before .before .before .outer .inv .2 (c .before .before .before .before .before .before .before .before .before .before .before .before .before .before .before .before .before .before .before .before .before .before .before .before .before .before .before .before .before .pre)) (c .before .before .before .before .before .before .before .before .before .before .before .before .before .before .before .before .before .outer-test .taken) _ _ (c .before .before .before .before .before .before .before .before .before .before .before .before .before .before .before .pop .ensures)))
+
+cast-settle : tie.Need-cast-settle Inv-loop μ-loop Inv-outer μ-outer
+cast-settle c = omega (arith, c .shared-slice-known14 .given (getD (c .before .before .before .before .before .before .before .before .before .before .before .before .before .before .before .before .before .before .before .before .before .before .before .before .before .before .before .before .before .args .ranks .now) (c .before .before .before .before .before .before .before .before .before .before .before .before .before .before .before .pop .result .node) 0))
+
+add-settle : tie.Need-add-settle Inv-loop μ-loop Inv-outer μ-outer
+add-settle c = omega (arith, r-below _ _ _ _ _ _ _ _ _ _ _ _ _ (of (c .before .before .before .before .before .before .before .before .before .before .before .before .before .before .before .before .before .before .before .before .before .before .before .before .before .before .before .before .before .args .best)) (c .before .before .before .before .before .before .before .before .before .before .before .before .before .before .before .before .before .before .before .before .before .before .before .before .before .before .before .before .before .pre) _ (node-below _ _ _ _ _ _ _ _ _ _ _ _ _ (of (c .before .before .before .before .before .before .before .before .before .before .before .before .before .before .before .before .before .before .before .before .before .before .before .before .before .before .before .before .before .args .best)) (c .before .before .before .before .before .before .before .before .before .before .before .before .before .before .before .before .before .before .before .before .before .before .before .before .before .before .before .before .before .pre) _ _ (c .before .before .before .before .before .before .before .before .before .before .before .before .before .before .before .before .before .before .outer .inv .2 (c .before .before .before .before .before .before .before .before .before .before .before .before .before .before .before .before .before .before .before .before .before .before .before .before .before .before .before .before .before .pre)) (c .before .before .before .before .before .before .before .before .before .before .before .before .before .before .before .before .before .outer-test .taken) _ _ (c .before .before .before .before .before .before .before .before .before .before .before .before .before .before .before .pop .ensures)), c .before .before .before .before .before .before .before .before .before .before .before .before .before .before .before .before .before .before .before .before .before .before .before .before .before .before .before .before .before .pre .rules .nodes)
+
+mul-settle-2 : tie.Need-mul-settle-2 Inv-loop μ-loop Inv-outer μ-outer
+mul-settle-2 c = omega (arith, r-below _ _ _ _ _ _ _ _ _ _ _ _ _ (of (c .before .before .before .before .before .before .before .before .before .before .before .before .before .before .before .before .before .before .before .before .before .before .before .before .before .before .before .before .before .args .best)) (c .before .before .before .before .before .before .before .before .before .before .before .before .before .before .before .before .before .before .before .before .before .before .before .before .before .before .before .before .before .pre) _ (node-below _ _ _ _ _ _ _ _ _ _ _ _ _ (of (c .before .before .before .before .before .before .before .before .before .before .before .before .before .before .before .before .before .before .before .before .before .before .before .before .before .before .before .before .before .args .best)) (c .before .before .before .before .before .before .before .before .before .before .before .before .before .before .before .before .before .before .before .before .before .before .before .before .before .before .before .before .before .pre) _ _ (c .before .before .before .before .before .before .before .before .before .before .before .before .before .before .before .before .before .before .outer .inv .2 (c .before .before .before .before .before .before .before .before .before .before .before .before .before .before .before .before .before .before .before .before .before .before .before .before .before .before .before .before .before .pre)) (c .before .before .before .before .before .before .before .before .before .before .before .before .before .before .before .before .before .outer-test .taken) _ _ (c .before .before .before .before .before .before .before .before .before .before .before .before .before .before .before .pop .ensures)), c .before .before .before .before .before .before .before .before .before .before .before .before .before .before .before .before .before .before .before .before .before .before .before .before .before .before .before .before .before .pre .rules .nodes)
+
+shared-slice-read-settle-2 : tie.Need-shared-slice-read-settle-2 Inv-loop μ-loop Inv-outer μ-outer
+shared-slice-read-settle-2 c = starts-long _ _ _ _ _ _ _ _ _ _ _ _ _ (of (c .before .before .before .before .before .before .before .before .before .before .before .before .before .before .before .before .before .before .before .before .before .before .before .before .before .before .before .before .before .before .args .best)) (c .before .before .before .before .before .before .before .before .before .before .before .before .before .before .before .before .before .before .before .before .before .before .before .before .before .before .before .before .before .before .pre) _ (node-below _ _ _ _ _ _ _ _ _ _ _ _ _ (of (c .before .before .before .before .before .before .before .before .before .before .before .before .before .before .before .before .before .before .before .before .before .before .before .before .before .before .before .before .before .before .args .best)) (c .before .before .before .before .before .before .before .before .before .before .before .before .before .before .before .before .before .before .before .before .before .before .before .before .before .before .before .before .before .before .pre) _ _ (c .before .before .before .before .before .before .before .before .before .before .before .before .before .before .before .before .before .before .before .outer .inv .2 (c .before .before .before .before .before .before .before .before .before .before .before .before .before .before .before .before .before .before .before .before .before .before .before .before .before .before .before .before .before .before .pre)) (c .before .before .before .before .before .before .before .before .before .before .before .before .before .before .before .before .before .before .outer-test .taken) _ _ (c .before .before .before .before .before .before .before .before .before .before .before .before .before .before .before .before .pop .ensures))
+
+cast-settle-2 : tie.Need-cast-settle-2 Inv-loop μ-loop Inv-outer μ-outer
+cast-settle-2 c = omega (arith, c .shared-slice-known15 .given ((getD (c .before .before .before .before .before .before .before .before .before .before .before .before .before .before .before .before .before .before .before .before .before .before .before .before .before .before .before .before .before .before .args .ranks .now) (c .before .before .before .before .before .before .before .before .before .before .before .before .before .before .before .before .pop .result .node) 0) + 1))
+
+settle-requires : tie.Need-settle-requires Inv-loop μ-loop Inv-outer μ-outer
+settle-requires c κs = rw (c .before .before .before .before .before .before .before .before .before .before .before .before .before .before .before .before .before .before .before .outer .inv .0) (settling _ _ _ _ _ _ _ _ _ _ _ _ _ (of (c .before .before .before .before .before .before .before .before .before .before .before .before .before .before .before .before .before .before .before .before .before .before .before .before .before .before .before .before .before .before .args .best)) (c .before .before .before .before .before .before .before .before .before .before .before .before .before .before .before .before .before .before .before .before .before .before .before .before .before .before .before .before .before .before .pre) _ _ (c .before .before .before .before .before .before .before .before .before .before .before .before .before .before .before .before .before .before .before .outer .inv .2 (c .before .before .before .before .before .before .before .before .before .before .before .before .before .before .before .before .before .before .before .before .before .before .before .before .before .before .before .before .before .before .pre)) (c .before .before .before .before .before .before .before .before .before .before .before .before .before .before .before .before .before .before .outer-test .taken) _ _ (c .before .before .before .before .before .before .before .before .before .before .before .before .before .before .before .before .pop .ensures) (ap (λ (l : List ℕ). ltb (c .before .before .before .before .before .before .before .before .before .before .before .before .before .before .before .before .before .before .before .before .before .before .before .before .before .before .before .before .before .before .args .base) (stamp l (c .before .before .before .before .before .before .before .before .before .before .before .before .before .before .before .before .pop .result .node))) (sym (c .before .before .before .before .before .before .before .before .before .before .before .before .before .before .before .before .before .before .before .outer .inv .0)) ∙ sym (c .before .before .before .before .before .before .before .before .before .before .before .before .is-settled .ensures) ∙ c .before .before .before .before .before .before .before .before .before .before .before .if1 .left) (le-ltb (c .before .before .before .before .before .before .before .before .before .before .before .before .before .before .before .before .before .before .before .before .before .before .before .before .before .before .before .before .before .before .args .best .sum) (c .before .before .before .before .before .before .before .before .before .before .before .before .before .before .before .before .pop .result .weight) (omega (arith, c .before .before .before .before .before .before .before .before .before .if2 .left, ap (λ (x : Held). x .sum) (c .before .before .before .before .before .before .before .before .before .before .before .before .before .before .before .before .before .before .before .outer .inv .1)))))
+
+meet-requires : tie.Need-meet-requires Inv-loop μ-loop Inv-outer μ-outer
+meet-requires c κs = (facing-fits _ _ _ _ _ _ _ _ _ _ _ _ _ (of (c .before .before .before .before .before .before .before .before .before .before .before .before .before .before .before .before .before .before .before .before .before .before .before .before .before .before .before .before .before .before .before .before .before .before .before .args .best)) (c .before .before .before .before .before .before .before .before .before .before .before .before .before .before .before .before .before .before .before .before .before .before .before .before .before .before .before .before .before .before .before .before .before .before .before .pre) _ _ (c .before .before .before .before .before .before .before .before .before .before .before .before .before .before .before .before .before .before .before .before .before .before .before .before .outer .inv .2 (c .before .before .before .before .before .before .before .before .before .before .before .before .before .before .before .before .before .before .before .before .before .before .before .before .before .before .before .before .before .before .before .before .before .before .before .pre)) (c .before .before .before .before .before .before .before .before .before .before .before .before .before .before .before .before .before .before .before .before .before .before .before .outer-test .taken) _ _ (c .before .before .before .before .before .before .before .before .before .before .before .before .before .before .before .before .before .before .before .before .before .pop .ensures), node-small _ _ _ _ _ _ _ _ _ _ _ _ _ (of (c .before .before .before .before .before .before .before .before .before .before .before .before .before .before .before .before .before .before .before .before .before .before .before .before .before .before .before .before .before .before .before .before .before .before .before .args .best)) (c .before .before .before .before .before .before .before .before .before .before .before .before .before .before .before .before .before .before .before .before .before .before .before .before .before .before .before .before .before .before .before .before .before .before .before .pre) _ _ (c .before .before .before .before .before .before .before .before .before .before .before .before .before .before .before .before .before .before .before .before .before .before .before .before .outer .inv .2 (c .before .before .before .before .before .before .before .before .before .before .before .before .before .before .before .before .before .before .before .before .before .before .before .before .before .before .before .before .before .before .before .before .before .before .before .pre)) (c .before .before .before .before .before .before .before .before .before .before .before .before .before .before .before .before .before .before .before .before .before .before .before .outer-test .taken) _ _ (c .before .before .before .before .before .before .before .before .before .before .before .before .before .before .before .before .before .before .before .before .before .pop .ensures), meeting-fits _ _ _ _ _ _ _ _ _ _ _ _ _ (of (c .before .before .before .before .before .before .before .before .before .before .before .before .before .before .before .before .before .before .before .before .before .before .before .before .before .before .before .before .before .before .before .before .before .before .before .args .best)) (c .before .before .before .before .before .before .before .before .before .before .before .before .before .before .before .before .before .before .before .before .before .before .before .before .before .before .before .before .before .before .before .before .before .before .before .pre) _ _ (c .before .before .before .before .before .before .before .before .before .before .before .before .before .before .before .before .before .before .before .before .before .before .before .before .outer .inv .2 (c .before .before .before .before .before .before .before .before .before .before .before .before .before .before .before .before .before .before .before .before .before .before .before .before .before .before .before .before .before .before .before .before .before .before .before .pre)) (c .before .before .before .before .before .before .before .before .before .before .before .before .before .before .before .before .before .before .before .before .before .before .before .outer-test .taken) _ _ (c .before .before .before .before .before .before .before .before .before .before .before .before .before .before .before .before .before .before .before .before .before .pop .ensures))
+
+same-length : tie.Need-same-length Inv-loop μ-loop Inv-outer μ-outer
+same-length c = ap length (c .before .outer .inv .0)
+
+same-length-2 : tie.Need-same-length-2 Inv-loop μ-loop Inv-outer μ-outer
+same-length-2 c = c .before .outer .inv .2 (c .before .before .before .before .before .before .before .before .before .before .before .before .pre) .long
+
+returns : tie.Need-returns Inv-loop μ-loop Inv-outer μ-outer
+returns c =
+    let o = c .before .outer in
+    let s = c .before .before .before .before .before .before .before .before .before .before .before .before in
+    record {
+      turned = λ t y a. done-empty _ _ _ _ _ _ _ _ _ _ _ _ _ (of (s .args .best)) t _ _ (o .inv .2 t) (c .outer-test .left) y ∙ (λ j. record { half = half (s .args .n) (s .args .base) (sym (o .inv .0) j) (o .heap) (o .len); best = of (sym (o .inv .1) j) });
+      ordered = o .inv .2 (s .pre) .ordered;
+      held = o .inv .2 (s .pre) .held;
+    }
+
+same-length-3 : tie.Need-same-length-3 Inv-loop μ-loop Inv-outer μ-outer
+same-length-3 c = ap length (c .before .before .before .before .before .before .before .before .before .before .outer .inv .0)
+
+same-length-4 : tie.Need-same-length-4 Inv-loop μ-loop Inv-outer μ-outer
+same-length-4 c = c .before .before .before .before .before .before .before .pop .ensures .long ∙ (c .before .before .before .before .before .before .before .before .before .before .outer .inv .2 (c .before .before .before .before .before .before .before .before .before .before .before .before .before .before .before .before .before .before .before .before .before .pre)) .long
+
+returns-2 : tie.Need-returns-2 Inv-loop μ-loop Inv-outer μ-outer
+returns-2 c =
+    let o = c .before .before .before .before .before .before .before .before .before .before .outer in
+    let s = c .before .before .before .before .before .before .before .before .before .before .before .before .before .before .before .before .before .before .before .before .before in
+    let p = c .before .before .before .before .before .before .before .pop .ensures in
+    record {
+      turned = λ t y a.
+          done-heavy _ _ _ _ _ _ _ _ _ _ _ _ _ (of (c .before .before .before .before .before .before .before .before .before .before .before .before .before .before .before .before .before .before .before .before .before .args .best)) (t) _ _ (c .before .before .before .before .before .before .before .before .before .before .outer .inv .2 (t)) (c .before .before .before .before .before .before .before .before .before .outer-test .taken) _ _ (c .before .before .before .before .before .before .before .pop .ensures) (ap (λ (l : List ℕ). ltb (c .before .before .before .before .before .before .before .before .before .before .before .before .before .before .before .before .before .before .before .before .before .args .base) (stamp l (c .before .before .before .before .before .before .before .pop .result .node))) (sym (c .before .before .before .before .before .before .before .before .before .before .outer .inv .0)) ∙ sym (c .before .before .before .is-settled .ensures) ∙ c .before .before .if1 .left) (lt-ltb (c .before .before .before .before .before .before .before .before .before .before .before .before .before .before .before .before .before .before .before .before .before .args .best .sum) (c .before .before .before .before .before .before .before .pop .result .weight) (omega (arith, c .if2 .taken, ap (λ (x : Held). x .sum) (c .before .before .before .before .before .before .before .before .before .before .outer .inv .1)))) y
+          ∙ (λ j. record { half = half (s .args .n) (s .args .base) (sym (o .inv .0) j) (c .before .before .before .before .before .before .before .pop .last .0) (o .len - 1); best = of (sym (o .inv .1) j) });
+      ordered = p .ordered;
+      held = omega (arith, p .long, (c .before .before .before .before .before .before .before .before .before .before .outer .inv .2 (c .before .before .before .before .before .before .before .before .before .before .before .before .before .before .before .before .before .before .before .before .before .pre)) .held);
+    }
+
+same-length-5 : tie.Need-same-length-5 Inv-loop μ-loop Inv-outer μ-outer
+same-length-5 c = c .before .before .before .before .before .settle .kept .1 .1 .0 ∙ ap length (c .before .before .before .before .before .before .before .before .before .before .before .before .before .before .before .before .before .before .before .before .before .before .before .before .before .outer .inv .0)
+
+same-length-6 : tie.Need-same-length-6 Inv-loop μ-loop Inv-outer μ-outer
+same-length-6 c = c .before .before .before .before .before .settle .kept .1 .1 .1 .0 ∙ c .before .before .before .before .before .before .before .before .before .before .before .before .before .before .before .before .before .before .before .before .before .before .pop .ensures .long ∙ (c .before .before .before .before .before .before .before .before .before .before .before .before .before .before .before .before .before .before .before .before .before .before .before .before .before .outer .inv .2 (c .before .before .before .before .before .before .before .before .before .before .before .before .before .before .before .before .before .before .before .before .before .before .before .before .before .before .before .before .before .before .before .before .before .before .before .before .pre)) .long
+
+returns-3 : tie.Need-returns-3 Inv-loop μ-loop Inv-outer μ-outer
+returns-3 c =
+    let o = c .before .before .before .before .before .before .before .before .before .before .before .before .before .before .before .before .before .before .before .before .before .before .before .before .before .outer in
+    let s = c .before .before .before .before .before .before .before .before .before .before .before .before .before .before .before .before .before .before .before .before .before .before .before .before .before .before .before .before .before .before .before .before .before .before .before .before in
+    let done = c .before .before .before .before .before .settle in
+    let room = settling _ _ _ _ _ _ _ _ _ _ _ _ _ (of (c .before .before .before .before .before .before .before .before .before .before .before .before .before .before .before .before .before .before .before .before .before .before .before .before .before .before .before .before .before .before .before .before .before .before .before .before .args .best)) (c .before .before .before .before .before .before .before .before .before .before .before .before .before .before .before .before .before .before .before .before .before .before .before .before .before .before .before .before .before .before .before .before .before .before .before .before .pre) _ _ (c .before .before .before .before .before .before .before .before .before .before .before .before .before .before .before .before .before .before .before .before .before .before .before .before .before .outer .inv .2 (c .before .before .before .before .before .before .before .before .before .before .before .before .before .before .before .before .before .before .before .before .before .before .before .before .before .before .before .before .before .before .before .before .before .before .before .before .pre)) (c .before .before .before .before .before .before .before .before .before .before .before .before .before .before .before .before .before .before .before .before .before .before .before .before .outer-test .taken) _ _ (c .before .before .before .before .before .before .before .before .before .before .before .before .before .before .before .before .before .before .before .before .before .before .pop .ensures) (ap (λ (l : List ℕ). ltb (c .before .before .before .before .before .before .before .before .before .before .before .before .before .before .before .before .before .before .before .before .before .before .before .before .before .before .before .before .before .before .before .before .before .before .before .before .args .base) (stamp l (c .before .before .before .before .before .before .before .before .before .before .before .before .before .before .before .before .before .before .before .before .before .before .pop .result .node))) (sym (c .before .before .before .before .before .before .before .before .before .before .before .before .before .before .before .before .before .before .before .before .before .before .before .before .before .outer .inv .0)) ∙ sym (c .before .before .before .before .before .before .before .before .before .before .before .before .before .before .before .before .before .before .is-settled .ensures) ∙ c .before .before .before .before .before .before .before .before .before .before .before .before .before .before .before .before .before .if1 .left) (le-ltb (c .before .before .before .before .before .before .before .before .before .before .before .before .before .before .before .before .before .before .before .before .before .before .before .before .before .before .before .before .before .before .before .before .before .before .before .before .args .best .sum) (c .before .before .before .before .before .before .before .before .before .before .before .before .before .before .before .before .before .before .before .before .before .before .pop .result .weight) (omega (arith, c .before .before .before .before .before .before .before .before .before .before .before .before .before .before .before .if2 .left, ap (λ (x : Held). x .sum) (c .before .before .before .before .before .before .before .before .before .before .before .before .before .before .before .before .before .before .before .before .before .before .before .before .before .outer .inv .1)))) .relaxing .heap-room in
+    let met = ap (λ (x : Held). improve (c .before .before .before .before .before .before .before .before .before .before .before .before .before .before .before .before .before .before .before .before .before .before .pop .result .weight + seen (s .args .facing .now) (s .args .base) (c .before .before .before .before .before .before .before .before .before .before .before .before .before .before .before .before .before .before .before .before .before .before .pop .result .node) .weight) (c .before .before .before .before .before .before .before .before .before .before .before .before .before .before .before .before .before .before .before .before .before .before .pop .result .node) (of x)) (sym (o .inv .1)) ∙ sym (c .meet .ensures) in
+    record {
+      turned = λ t y a.
+          done-settles _ _ _ _ _ _ _ _ _ _ _ _ _ (of (c .before .before .before .before .before .before .before .before .before .before .before .before .before .before .before .before .before .before .before .before .before .before .before .before .before .before .before .before .before .before .before .before .before .before .before .before .args .best)) (t) _ _ (c .before .before .before .before .before .before .before .before .before .before .before .before .before .before .before .before .before .before .before .before .before .before .before .before .before .outer .inv .2 (t)) (c .before .before .before .before .before .before .before .before .before .before .before .before .before .before .before .before .before .before .before .before .before .before .before .before .outer-test .taken) _ _ (c .before .before .before .before .before .before .before .before .before .before .before .before .before .before .before .before .before .before .before .before .before .before .pop .ensures) (ap (λ (l : List ℕ). ltb (c .before .before .before .before .before .before .before .before .before .before .before .before .before .before .before .before .before .before .before .before .before .before .before .before .before .before .before .before .before .before .before .before .before .before .before .before .args .base) (stamp l (c .before .before .before .before .before .before .before .before .before .before .before .before .before .before .before .before .before .before .before .before .before .before .pop .result .node))) (sym (c .before .before .before .before .before .before .before .before .before .before .before .before .before .before .before .before .before .before .before .before .before .before .before .before .before .outer .inv .0)) ∙ sym (c .before .before .before .before .before .before .before .before .before .before .before .before .before .before .before .before .before .before .is-settled .ensures) ∙ c .before .before .before .before .before .before .before .before .before .before .before .before .before .before .before .before .before .if1 .left) (le-ltb (c .before .before .before .before .before .before .before .before .before .before .before .before .before .before .before .before .before .before .before .before .before .before .before .before .before .before .before .before .before .before .before .before .before .before .before .before .args .best .sum) (c .before .before .before .before .before .before .before .before .before .before .before .before .before .before .before .before .before .before .before .before .before .before .pop .result .weight) (omega (arith, c .before .before .before .before .before .before .before .before .before .before .before .before .before .before .before .if2 .left, ap (λ (x : Held). x .sum) (c .before .before .before .before .before .before .before .before .before .before .before .before .before .before .before .before .before .before .before .before .before .before .before .before .before .outer .inv .1))))
+          (ap (λ (l : List ℕ). lower-by l (c .before .before .before .before .before .before .before .before .before .before .before .before .before .before .before .before .before .before .before .before .before .before .before .before .before .before .before .before .before .before .before .before .before .before .before .before .args .base) (c .before .before .before .before .before .before .before .before .before .before .before .before .before .before .before .before .before .before .before .before .before .before .before .before .before .before .before .before .before .before .before .before .before .before .before .before .args .other-neighbours .now) (c .before .before .before .before .before .before .before .before .before .before .before .before .before .before .before .before .before .before .before .before .before .before .before .before .before .before .before .before .before .before .before .before .before .before .before .before .args .other-weights .now) (c .before .before .before .before .before .before .before .before .before .before .before .before .before .before .before .before .before .before .before .before .before .before .pop .result .weight) (range (getD (c .before .before .before .before .before .before .before .before .before .before .before .before .before .before .before .before .before .before .before .before .before .before .before .before .before .before .before .before .before .before .before .before .before .before .before .before .args .other-starts .now) (getD (c .before .before .before .before .before .before .before .before .before .before .before .before .before .before .before .before .before .before .before .before .before .before .before .before .before .before .before .before .before .before .before .before .before .before .before .before .args .ranks .now) (c .before .before .before .before .before .before .before .before .before .before .before .before .before .before .before .before .before .before .before .before .before .before .pop .result .node) 0) 0) (getD (c .before .before .before .before .before .before .before .before .before .before .before .before .before .before .before .before .before .before .before .before .before .before .before .before .before .before .before .before .before .before .before .before .before .before .before .before .args .other-starts .now) ((getD (c .before .before .before .before .before .before .before .before .before .before .before .before .before .before .before .before .before .before .before .before .before .before .before .before .before .before .before .before .before .before .before .before .before .before .before .before .args .ranks .now) (c .before .before .before .before .before .before .before .before .before .before .before .before .before .before .before .before .before .before .before .before .before .before .pop .result .node) 0) + 1) 0))) (sym (c .before .before .before .before .before .before .before .before .before .before .before .before .before .before .before .before .before .before .before .before .before .before .before .before .before .outer .inv .0)) ∙ sym (c .before .before .before .before .before .before .before .before .before .before .before .loop .inv .1) ∙ none-left _ _ _ _ _ _ _ (c .before .before .before .before .before .before .before .before .before .before .loop-test .left))
+          _ _ _ (rw (o .inv .0) at (done .ensures)) y a
+          ∙ (λ j. record { half = half (s .args .n) (s .args .base) (done .last .1 .1 .0) (done .last .1 .1 .1 .0) (done .result); best = met j });
+      ordered = done .ensures .ordered;
+      held = omega (arith, done .ensures .most, room, done .kept .1 .1 .1 .0);
+    }
+
+pub turn-spec : {M : Type 1} → statement M
+turn-spec =
+    tie.close
+    (tie.spec
+    Inv-loop
+    μ-loop
+    Inv-outer
+    μ-outer
+    outer-holds
+    pop-requires
+    sub-len
+    is-settled-requires
+    outer-less
+    outer-again
+    mul-r
+    shared-slice-read-r
+    cast-r
+    add-end
+    mul-end
+    shared-slice-read-end
+    cast-end
+    mul-e
+    shared-slice-read-e
+    cast-e
+    loop-holds
+    mul-get-weight
+    shared-slice-read-get-weight
+    cast-get-weight
+    get-weight-requires
+    mul-less
+    shared-slice-read-less
+    less-requires
+    outer-less-2
+    outer-again-2
+    add-e
+    loop-less
+    loop-again
+    mul-settle
+    shared-slice-read-settle
+    cast-settle
+    add-settle
+    mul-settle-2
+    shared-slice-read-settle-2
+    cast-settle-2
+    settle-requires
+    meet-requires
+    same-length
+    same-length-2
+    returns
+    same-length-3
+    same-length-4
+    returns-2
+    same-length-5
+    same-length-6
+    returns-3)

@@ -1,0 +1,2 @@
+-- What a turn asks and leaves.
+pub mod Turning
