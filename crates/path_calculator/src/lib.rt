@@ -8,7 +8,7 @@ ghost use Rattle.path_calculator.specs.Searching.{Searching, Searched};
 use turns::Best;
 
 // Labels are cleared, so that whatever the slices held does not matter; 1 is then a base of which no stamp is.
-fn search(
+pub fn search(
     n: usize,
     ranks: &[u32],
     fs: &[u32],
