@@ -16,7 +16,7 @@ use Rattle.rules.specs.FirstDemand.{Lowest, build-table, query-table, Fi
 use Rattle.rules.proofs.Cases.{on-test}
 use Rattle.rules.proofs.Decides.{denied}
 use Rattle.rules.proofs.TablesDecided.{tables-decided}
-use Rattle.rules.proofs.Numbers.{pool-exceeded, table-exceeded, sum-exceeded}
+use Rattle.rules.proofs.Numbers.{query-refusal-least, pool-exceeded, table-exceeded, sum-exceeded}
 use Rattle.rules.proofs.Sentences.{build-lowest, query-lowest, check-decided}
 use Rattle.rules.proofs.Outcomes.{early, late, whole, ended, marked-fills, built-beyond}
 use Rattle.rules.proofs.Answers as answers
@@ -33,6 +33,14 @@ module _ (c : BuildCall) where
         | early k p a b e ↦ (λ x. omega (arith, number-of _ e), λ x. omega (arith, number-of _ e))
         | late k p m a b e ↦ (λ x. absurd (omega (arith, number-of _ e)), λ x. absurd (omega arith))
         | whole k p a e ↦ (λ x. absurd (omega (arith, number-of _ e)), λ x. absurd (omega arith))
+      ]
+
+  build-numbers : build c .number ≤ 12
+  build-numbers =
+      elim (ended c) [
+        | early k p a b e ↦ omega (arith, number-of _ e)
+        | late k p m a b e ↦ omega (arith, number-of _ e)
+        | whole k p a e ↦ omega (arith, number-of _ e)
       ]
 
   build-works : Lowest (build-table c) 0 ↔ ((build c .number ≡ 0) ⊎ ((10 ≤ build c .number) × (build c .number ≤ 12)))
@@ -86,6 +94,17 @@ module _ (q : QueryCall) where
         | answers.none p a e ↦ (λ x. absurd (omega (arith, refused-number 0 e)), λ x. absurd (omega arith))
         | answers.longer p a b e ↦ (λ x. absurd (omega (arith, refused-number 25 e)), λ x. absurd (omega arith))
         | answers.found p a b e ↦ (λ x. absurd (omega (arith, answered-number _ e)), λ x. absurd (omega arith))
+      ]
+
+  query-numbers : (query q .number ≡ 0) ⊎ ((20 ≤ query q .number) × (query q .number ≤ 25))
+  query-numbers =
+      elim (answers.replied q) [
+        | answers.early k p a b e ↦
+            let low = query-refusal-least q (omega arith) in
+            inr (omega (arith, refused-number k e), omega (arith, refused-number k e))
+        | answers.none p a e ↦ inl (refused-number 0 e)
+        | answers.longer p a b e ↦ inr (omega (arith, refused-number 25 e), omega (arith, refused-number 25 e))
+        | answers.found p a b e ↦ inl (answered-number _ e)
       ]
 
   query-works : Lowest (query-table q) 0 ↔ ((query q .number ≡ 0) ⊎ (query q .number ≡ 25))
@@ -196,6 +215,7 @@ first-demand =
       program-input = refl;
       program-nodes = refl;
       program-links = refl;
+      build-numbers = build-numbers;
       build-refused = λ c r low high. Iff·trans (build-number c r low high) (build-lowest c r);
       build-works = build-works;
       untouched = untouched;
@@ -206,6 +226,7 @@ first-demand =
       sum-exceeded = sum-exceeded;
       check-refused = check-refused;
       check-passes = check-passes;
+      query-numbers = query-numbers;
       query-refused = λ q r low high. Iff·trans (query-number q r low high) (query-lowest q r);
       query-works = query-works;
       too-long = too-long;

@@ -29,6 +29,23 @@ first-up-to k [] h = omega arith
 first-up-to k (r ∷ rs) h =
     on-test (r .met) (λ t. rw (t, first-met) (h .0)) (λ t. rw (t, first-met) (first-up-to k rs (h .1)))
 
+-- rows of numbers from k on
+abbrev From : ℕ → List Row → Type 0
+From k [] = Unit {0}
+From k (r ∷ rs) = (k ≤ r .number) × From k rs
+
+first-from : (k : ℕ) (rs : List Row) → From k rs → 1 ≤ first-met rs → k ≤ first-met rs
+unfolding first-met
+first-from k [] h low = absurd (omega arith)
+first-from k (r ∷ rs) h low =
+    on-test (r .met)
+    (λ t. rw (t, first-met) (h .0))
+    (λ t. rw (t, first-met) (first-from k rs (h .1) (rw (t, first-met) at low)))
+
+pub query-refusal-least : (q : QueryCall) → 1 ≤ query-refusal q → 20 ≤ query-refusal q
+unfolding query-refusal check-rows end-rows
+query-refusal-least q low = first-from 20 (check-rows (q .nodes) (q .hierarchy) ++ end-rows q) (omega arith) low
+
 pub build-refusal-most : (c : BuildCall) → build-refusal c ≤ 9
 unfolding build-refusal graph-rows order-rows
 build-refusal-most c = first-up-to 9 (graph-rows (c .nodes) (c .links) ++ order-rows c) (omega arith)

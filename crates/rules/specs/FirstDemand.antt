@@ -196,6 +196,7 @@ pub record FirstDemand : Type 0 where
   pub program-nodes : programNodes ≡ 32
   pub program-links : programLinks ≡ 256
   -- The build: 1 to 9 exactly when, and what then; no other number than 0 to 12.
+  pub build-numbers : (c : BuildCall) → build c .number ≤ 12
   pub build-refused : (c : BuildCall) (r : ℕ) → 1 ≤ r → r ≤ 9 → (build c .number ≡ r) ↔ Lowest (build-table c) r
   pub build-works : (c : BuildCall) → Lowest (build-table c) 0 ↔ ((build c .number ≡ 0) ⊎ ((10 ≤ build c .number) × (build c .number ≤ 12)))
   pub untouched : (c : BuildCall) → 1 ≤ build c .number → build c .number ≤ 9 → build c .hierarchy ≡ c .lent
@@ -208,7 +209,8 @@ pub record FirstDemand : Type 0 where
   -- The table check: 20 exactly when a table rule is broken, and else 0.
   pub check-refused : (n : ℕ) (h : Hierarchy) → (check-refusal n h ≡ 20) ↔ (TableRules n h → ⊥)
   pub check-passes : (n : ℕ) (h : Hierarchy) → (check-refusal n h ≡ 0) ↔ TableRules n h
-  -- The query: 20 to 24 exactly when; 25 exactly when the walk of the steps is longer than the buffer; what then.
+  -- The query: 0 or 20 to 25; 20 to 24 exactly when; 25 exactly when the walk of the steps is longer than the buffer; what then.
+  pub query-numbers : (q : QueryCall) → (query q .number ≡ 0) ⊎ ((20 ≤ query q .number) × (query q .number ≤ 25))
   pub query-refused : (q : QueryCall) (r : ℕ) → 1 ≤ r → r ≤ 24 → (query q .number ≡ r) ↔ Lowest (query-table q) r
   pub query-works : (q : QueryCall) → Lowest (query-table q) 0 ↔ ((query q .number ≡ 0) ⊎ (query q .number ≡ 25))
   pub too-long : (q : QueryCall) → (query q .number ≡ 25) ↔
