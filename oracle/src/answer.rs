@@ -186,56 +186,118 @@ pub fn entry(e: &FastGraphEdge) -> [u64; 5] {
 }
 
 fn query(case: &mut Json) {
-    let places = case.get("path_places").id();
-    let filled = case.get("filled_with").number();
-    let (number, found) = match try_query(case, places) {
-        Ok(found) => (0, found),
-        Err(Stop::Refused(number)) => (number, None),
-        Err(Stop::NoAnswer(why)) => return no_answer(case, why),
+    let asked = Asked::of(case);
+    let found = query_within(&Tables::of(case), &asked);
+    let Some(Answered { number, weight, length, path }) = handed_back(&asked, found) else {
+        return no_answer(case, "an entry opens into more than 2^20 links");
     };
-    let (weight, walk) = found.map_or((WEIGHT_MAX, vec![]), |path| (path.weight, path.nodes));
     case.set("number", Json::Number(number));
     case.set("weight", Json::Number(weight));
-    case.set("length", Json::Number(walk.len() as u64));
-    case.set("path", Json::of(&column(places, walk.iter().map(|&node| node as u64), filled)));
+    case.set("length", Json::Number(length as u64));
+    case.set("path", Json::of(&path));
 }
 
-enum Stop {
+/// The ends of one side, in columns that may differ in length.
+#[derive(Clone, Debug, Default)]
+pub struct Ends {
+    pub nodes: Vec<NodeId>,
+    pub offsets: Vec<Weight>,
+}
+
+impl Ends {
+    fn of(list: &Json) -> Ends {
+        let ends = list.list();
+        Ends {
+            nodes: ends.iter().map(|end| end.list()[0].id()).collect(),
+            offsets: ends.iter().map(|end| end.list()[1].number()).collect(),
+        }
+    }
+
+    fn pairs(&self) -> Vec<(NodeId, Weight)> {
+        self.nodes.iter().copied().zip(self.offsets.iter().copied()).collect()
+    }
+}
+
+/// What a query is handed besides the tables, and what it is lent: the places of its path, what they hold, and whether scratch is below
+/// its formula.
+#[derive(Clone, Debug)]
+pub struct Asked {
+    pub sources: Ends,
+    pub targets: Ends,
+    pub places: usize,
+    pub filled: u64,
+    pub scratch_short: bool,
+}
+
+impl Asked {
+    fn of(case: &Json) -> Asked {
+        Asked {
+            sources: Ends::of(case.get("sources")),
+            targets: Ends::of(case.get("targets")),
+            places: case.get("path_places").id(),
+            filled: case.get("filled_with").number(),
+            scratch_short: false,
+        }
+    }
+}
+
+/// Why there is no route and no "none": a refusal, or tables that open into more links than the crate is let unpack.
+pub enum Stop {
     Refused(u64),
-    NoAnswer(&'static str),
+    TooManyOpened,
 }
 
 /// The route or "none".
-fn try_query(case: &Json, places: usize) -> Result<Option<ShortestPath>, Stop> {
-    let graph = Tables::of(case).read().ok_or(Stop::Refused(20))?;
+pub fn query_within(tables: &Tables, asked: &Asked) -> Result<Option<ShortestPath>, Stop> {
+    query_on(&tables.read().ok_or(Stop::Refused(20))?, asked)
+}
+
+/// The same on tables that keep the rules.
+pub fn query_on(graph: &FastGraph, asked: &Asked) -> Result<Option<ShortestPath>, Stop> {
     let nodes = graph.get_num_nodes();
-    let (sources, targets) = (ends(case.get("sources")), ends(case.get("targets")));
-    let all = || sources.iter().chain(&targets);
-    if [&sources, &targets].iter().any(|ends| !(1..=MAX_ENDS).contains(&ends.len())) {
+    let sides = [&asked.sources, &asked.targets];
+    if sides.iter().any(|ends| ends.nodes.len() != ends.offsets.len() || !(1..=MAX_ENDS).contains(&ends.nodes.len())) {
         return Err(Stop::Refused(21));
     }
-    if all().any(|&(node, _)| node >= nodes) {
+    if sides.iter().any(|ends| ends.nodes.iter().any(|&node| node >= nodes)) {
         return Err(Stop::Refused(22));
     }
-    if all().any(|&(_, offset)| offset > MAX_SUM && offset != WEIGHT_MAX) {
+    if sides.iter().any(|ends| ends.offsets.iter().any(|&offset| offset > MAX_SUM && offset != WEIGHT_MAX)) {
         return Err(Stop::Refused(23));
     }
-    if places < nodes {
+    if asked.places < nodes || asked.scratch_short {
         return Err(Stop::Refused(24));
     }
-    if longest_opening(&graph) > MOST_OPENED {
-        return Err(Stop::NoAnswer("an entry opens into more than 2^20 links"));
+    if longest_opening(graph) > MOST_OPENED {
+        return Err(Stop::TooManyOpened);
     }
     let found = PathCalculator::new(nodes)
-        .calc_path_multiple_sources_and_targets(&graph, sources, targets);
+        .calc_path_multiple_sources_and_targets(graph, asked.sources.pairs(), asked.targets.pairs());
     match found {
-        Some(path) if path.nodes.len() > places => Err(Stop::Refused(25)),
+        Some(path) if path.nodes.len() > asked.places => Err(Stop::Refused(25)),
         found => Ok(found),
     }
 }
 
-fn ends(list: &Json) -> Vec<(NodeId, Weight)> {
-    list.list().iter().map(|end| (end.list()[0].id(), end.list()[1].number())).collect()
+/// A query's number and weight, how many places of the path are the walk, and what every place holds.
+#[derive(Debug, PartialEq)]
+pub struct Answered {
+    pub number: u64,
+    pub weight: Weight,
+    pub length: usize,
+    pub path: Vec<u64>,
+}
+
+/// What a query hands back; nothing where the crate was not let unpack.
+pub fn handed_back(asked: &Asked, found: Result<Option<ShortestPath>, Stop>) -> Option<Answered> {
+    let (number, found) = match found {
+        Ok(found) => (0, found),
+        Err(Stop::Refused(number)) => (number, None),
+        Err(Stop::TooManyOpened) => return None,
+    };
+    let (weight, walk) = found.map_or((WEIGHT_MAX, vec![]), |path| (path.weight, path.nodes));
+    let path = column(asked.places, walk.iter().map(|&node| node as u64), asked.filled);
+    Some(Answered { number, weight, length: walk.len(), path })
 }
 
 fn search(case: &mut Json) {

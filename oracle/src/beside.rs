@@ -2,69 +2,39 @@
 
 use crate::constants::{NodeId, MAX_SUM};
 use crate::input_graph::InputGraph;
+use crate::lent::{proved, Columns, Scratch};
 use crate::meshes::{mesh, Rng, NAMES};
 use crate::preparation_graph::PreparationGraph;
-use crate::random::{below, links, Columns};
+use crate::random::{below, links};
 use crate::witness_search::WitnessSearch;
 use crate::fail;
 use crate::timing::best_of;
 
-#[link(name = "searches", kind = "static")]
-extern "C" {
-    #[rustfmt::skip]
-    fn witness_searches(
-        n: usize,
-        tails: *const u32, tails_len: usize,
-        heads: *const u32, heads_len: usize,
-        link_weights: *const u32, link_weights_len: usize,
-        start: u32, avoid: u32, limit: u32,
-        targets: *const u32, targets_len: usize,
-        sums: *const u64, sums_len: usize,
-        answers: *mut u64, answers_len: usize,
-        counts: *mut u64, counts_len: usize,
-        arcs: *mut u32, arcs_len: usize,
-        weights: *mut u64, weights_len: usize,
-        nodes: *mut u32, nodes_len: usize,
-        labels: *mut u64, labels_len: usize,
-        heap: *mut u64, heap_len: usize,
-    ) -> bool;
+#[rustfmt::skip]
+proved!("searches", fn witness_searches(
+    n: usize, tails: &[u32], heads: &[u32], link_weights: &[u32],
+    start: u32, avoid: u32, limit: u32,
+    targets: &[u32], sums: &[u64], answers: &mut [u64], counts: &mut [u64],
+    arcs: &mut [u32], weights: &mut [u64], nodes: &mut [u32], labels: &mut [u64], heap: &mut [u64],
+) -> bool);
 
-    #[rustfmt::skip]
-    fn all_pairs(
-        n: usize,
-        tails: *const u32, tails_len: usize,
-        heads: *const u32, heads_len: usize,
-        link_weights: *const u32, link_weights_len: usize,
-        limit: u32,
-        arcs: *mut u32, arcs_len: usize,
-        weights: *mut u64, weights_len: usize,
-        nodes: *mut u32, nodes_len: usize,
-        labels: *mut u64, labels_len: usize,
-        heap: *mut u64, heap_len: usize,
-    ) -> u64;
-}
+#[rustfmt::skip]
+proved!("searches", fn all_pairs(
+    n: usize, tails: &[u32], heads: &[u32], link_weights: &[u32],
+    limit: u32,
+    arcs: &mut [u32], weights: &mut [u64], nodes: &mut [u32], labels: &mut [u64], heap: &mut [u64],
+) -> u64);
 
-/// Links, and the slices that a search over them borrows, which hold rubbish.
+/// Links, and the scratch that a search over them borrows.
 struct Ours {
     links: Columns,
-    arcs: Vec<u32>,
-    weights: Vec<u64>,
-    nodes: Vec<u32>,
-    labels: Vec<u64>,
-    heap: Vec<u64>,
+    scratch: Scratch,
 }
 
 impl Ours {
     fn new(graph: &InputGraph) -> Ours {
-        let (n, pool) = (graph.get_num_nodes(), graph.get_edges().len());
-        Ours {
-            links: Columns::of(graph),
-            arcs: vec![7; 6 * pool],
-            weights: vec![7; pool],
-            nodes: vec![7; 4 * n],
-            labels: vec![7; 2 * n],
-            heap: vec![7; 2 * (pool + 1)],
-        }
+        let lengths = Scratch::lengths(graph.get_num_nodes(), graph.get_edges().len());
+        Ours { links: Columns::of(graph), scratch: Scratch::new(lengths) }
     }
 
     /// Answer and settled count for each target.
@@ -73,24 +43,14 @@ impl Ours {
         let targets: Vec<u32> = asked.targets.iter().map(|t| t.0 as u32).collect();
         let sums: Vec<u64> = asked.targets.iter().map(|t| t.1).collect();
         let (mut answers, mut counts) = (vec![0u64; targets.len()], vec![0u64; targets.len()]);
-        let taken = unsafe {
-            witness_searches(
-                self.links.n,
-                self.links.tails.as_ptr(), self.links.tails.len(),
-                self.links.heads.as_ptr(), self.links.heads.len(),
-                self.links.weights.as_ptr(), self.links.weights.len(),
-                asked.start as u32, asked.avoid as u32, asked.limit as u32,
-                targets.as_ptr(), targets.len(),
-                sums.as_ptr(), sums.len(),
-                answers.as_mut_ptr(), answers.len(),
-                counts.as_mut_ptr(), counts.len(),
-                self.arcs.as_mut_ptr(), self.arcs.len(),
-                self.weights.as_mut_ptr(), self.weights.len(),
-                self.nodes.as_mut_ptr(), self.nodes.len(),
-                self.labels.as_mut_ptr(), self.labels.len(),
-                self.heap.as_mut_ptr(), self.heap.len(),
-            )
-        };
+        let Ours { links: Columns { n, tails, heads, weights: link_weights }, scratch } = self;
+        let Scratch { arcs, weights, nodes, labels, heap } = scratch;
+        let taken = witness_searches(
+            *n, tails, heads, link_weights,
+            asked.start as u32, asked.avoid as u32, asked.limit as u32,
+            &targets, &sums, &mut answers, &mut counts,
+            arcs, weights, nodes, labels, heap,
+        );
         if !taken {
             fail("the proved search did not take what it was handed");
         }
@@ -98,22 +58,10 @@ impl Ours {
     }
 
     /// The sum of answers and counts over all pairs of all nodes.
-    #[rustfmt::skip]
     fn all_pairs(&mut self, limit: usize) -> u64 {
-        unsafe {
-            all_pairs(
-                self.links.n,
-                self.links.tails.as_ptr(), self.links.tails.len(),
-                self.links.heads.as_ptr(), self.links.heads.len(),
-                self.links.weights.as_ptr(), self.links.weights.len(),
-                limit as u32,
-                self.arcs.as_mut_ptr(), self.arcs.len(),
-                self.weights.as_mut_ptr(), self.weights.len(),
-                self.nodes.as_mut_ptr(), self.nodes.len(),
-                self.labels.as_mut_ptr(), self.labels.len(),
-                self.heap.as_mut_ptr(), self.heap.len(),
-            )
-        }
+        let Ours { links: Columns { n, tails, heads, weights: link_weights }, scratch } = self;
+        let Scratch { arcs, weights, nodes, labels, heap } = scratch;
+        all_pairs(*n, tails, heads, link_weights, limit as u32, arcs, weights, nodes, labels, heap)
     }
 }
 
@@ -202,7 +150,7 @@ pub fn race() {
         let (nodes, links) = (graph.get_num_nodes(), graph.get_edges().len());
         let mut slices = Ours::new(&graph);
         for limit in [100, 500] {
-            let (ours, theirs) = best_of(|| slices.all_pairs(limit), || crates_pairs(&graph, limit));
+            let [ours, theirs] = best_of([&mut || slices.all_pairs(limit), &mut || crates_pairs(&graph, limit)]);
             println!(
                 "{name:<8} {nodes:>6} {links:>6} {limit:>6} {:>9.2} {:>9.2} {:>11.2}",
                 1e3 * ours,

@@ -1,45 +1,28 @@
 //! Runs the proved build beside the crate's: every lent place, on all small graphs, on random ones with rooms at their edges and
 //! faults in what is handed in, and against the clock.
 
-use crate::answer::{build_within, checked, places, Lent};
+use crate::answer::{build_within, places, Lent};
 use crate::constants::NodeId;
 use crate::fail;
 use crate::input_graph::{Edge, InputGraph};
+use crate::lent::{ids, proved, wide, Columns, Scratch, Table};
 use crate::meshes::{mesh, Rng, SMALL};
-use crate::random::{below, links, shuffled, Columns};
+use crate::random::{below, random_graph, shuffled};
 use crate::room::{contract_within, Room};
 use crate::timing::{best_of, build, chosen_order, LIMIT};
+use crate::tiny;
 
-#[link(name = "fast_graph_builder", kind = "static")]
-extern "C" {
-    #[rustfmt::skip]
-    fn build_with_order(
-        n: usize,
-        tails: *const u32, tails_len: usize,
-        heads: *const u32, heads_len: usize,
-        link_weights: *const u32, link_weights_len: usize,
-        order: *const u32, order_len: usize,
-        limit: u32, pool: u64,
-        ranks: *mut u32, ranks_len: usize,
-        fwd_starts: *mut u32, fwd_starts_len: usize,
-        fwd_bases: *mut u32, fwd_bases_len: usize,
-        fwd_neighbours: *mut u32, fwd_neighbours_len: usize,
-        fwd_weights: *mut u64, fwd_weights_len: usize,
-        fwd_ins: *mut u32, fwd_ins_len: usize,
-        fwd_outs: *mut u32, fwd_outs_len: usize,
-        bwd_starts: *mut u32, bwd_starts_len: usize,
-        bwd_bases: *mut u32, bwd_bases_len: usize,
-        bwd_neighbours: *mut u32, bwd_neighbours_len: usize,
-        bwd_weights: *mut u64, bwd_weights_len: usize,
-        bwd_ins: *mut u32, bwd_ins_len: usize,
-        bwd_outs: *mut u32, bwd_outs_len: usize,
-        arcs: *mut u32, arcs_len: usize,
-        weights: *mut u64, weights_len: usize,
-        nodes: *mut u32, nodes_len: usize,
-        labels: *mut u64, labels_len: usize,
-        heap: *mut u64, heap_len: usize,
-    ) -> u32;
-}
+#[rustfmt::skip]
+proved!("fast_graph_builder", fn build_with_order(
+    n: usize, tails: &[u32], heads: &[u32], link_weights: &[u32], order: &[u32],
+    limit: u32, pool: u64,
+    ranks: &mut [u32],
+    fwd_starts: &mut [u32], fwd_bases: &mut [u32], fwd_neighbours: &mut [u32],
+    fwd_weights: &mut [u64], fwd_ins: &mut [u32], fwd_outs: &mut [u32],
+    bwd_starts: &mut [u32], bwd_bases: &mut [u32], bwd_neighbours: &mut [u32],
+    bwd_weights: &mut [u64], bwd_ins: &mut [u32], bwd_outs: &mut [u32],
+    arcs: &mut [u32], weights: &mut [u64], nodes: &mut [u32], labels: &mut [u64], heap: &mut [u64],
+) -> u32);
 
 /// A build: what is handed in, and how many places of everything are lent.
 #[derive(Clone, Debug)]
@@ -53,104 +36,41 @@ pub struct Call {
     filled: u32,
 }
 
-/// docs/SCRATCH.md: arcs, weights, nodes, labels, heap.
-fn scratch(nodes: usize, pool: usize) -> [usize; 5] {
-    [6 * pool, pool, 4 * nodes, 2 * nodes, 2 * (pool + 1)]
-}
-
-/// The columns of one table, as lent.
-struct Table {
-    starts: Vec<u32>,
-    bases: Vec<u32>,
-    neighbours: Vec<u32>,
-    weights: Vec<u64>,
-    ins: Vec<u32>,
-    outs: Vec<u32>,
-}
-
-impl Table {
-    fn lent(starts: usize, columns: &[usize; 5], filled: u32) -> Table {
-        let ids = |length| vec![filled; length];
-        Table {
-            starts: ids(starts),
-            bases: ids(columns[0]),
-            neighbours: ids(columns[1]),
-            weights: vec![filled as u64; columns[2]],
-            ins: ids(columns[3]),
-            outs: ids(columns[4]),
-        }
-    }
-
-    fn places(&self) -> [Vec<u64>; 6] {
-        let wide = |column: &[u32]| column.iter().map(|&id| id as u64).collect();
-        [wide(&self.starts), wide(&self.bases), wide(&self.neighbours), self.weights.clone(), wide(&self.ins), wide(&self.outs)]
-    }
-}
-
-/// What a build borrows; scratch holds rubbish.
+/// What a build borrows.
 pub struct Ours {
     ranks: Vec<u32>,
     fwd: Table,
     bwd: Table,
-    arcs: Vec<u32>,
-    weights: Vec<u64>,
-    nodes: Vec<u32>,
-    labels: Vec<u64>,
-    heap: Vec<u64>,
+    scratch: Scratch,
 }
 
 impl Ours {
     pub fn lent(call: &Call) -> Ours {
         let Lent { ranks, fwd_starts, bwd_starts, fwd, bwd, .. } = &call.lent;
-        let [arcs, weights, nodes, labels, heap] = call.scratch;
         Ours {
             ranks: vec![call.filled; *ranks],
-            fwd: Table::lent(*fwd_starts, fwd, call.filled),
-            bwd: Table::lent(*bwd_starts, bwd, call.filled),
-            arcs: vec![9; arcs],
-            weights: vec![9; weights],
-            nodes: vec![9; nodes],
-            labels: vec![9; labels],
-            heap: vec![9; heap],
+            fwd: Table::filled(*fwd_starts, fwd, call.filled),
+            bwd: Table::filled(*bwd_starts, bwd, call.filled),
+            scratch: Scratch::new(call.scratch),
         }
     }
 
     #[rustfmt::skip]
     pub fn build(&mut self, call: &Call) -> u32 {
-        let Ours { ranks, fwd, bwd, arcs, weights, nodes, labels, heap } = self;
-        unsafe {
-            build_with_order(
-                call.links.n,
-                call.links.tails.as_ptr(), call.links.tails.len(),
-                call.links.heads.as_ptr(), call.links.heads.len(),
-                call.links.weights.as_ptr(), call.links.weights.len(),
-                call.order.as_ptr(), call.order.len(),
-                call.limit, call.pool,
-                ranks.as_mut_ptr(), ranks.len(),
-                fwd.starts.as_mut_ptr(), fwd.starts.len(),
-                fwd.bases.as_mut_ptr(), fwd.bases.len(),
-                fwd.neighbours.as_mut_ptr(), fwd.neighbours.len(),
-                fwd.weights.as_mut_ptr(), fwd.weights.len(),
-                fwd.ins.as_mut_ptr(), fwd.ins.len(),
-                fwd.outs.as_mut_ptr(), fwd.outs.len(),
-                bwd.starts.as_mut_ptr(), bwd.starts.len(),
-                bwd.bases.as_mut_ptr(), bwd.bases.len(),
-                bwd.neighbours.as_mut_ptr(), bwd.neighbours.len(),
-                bwd.weights.as_mut_ptr(), bwd.weights.len(),
-                bwd.ins.as_mut_ptr(), bwd.ins.len(),
-                bwd.outs.as_mut_ptr(), bwd.outs.len(),
-                arcs.as_mut_ptr(), arcs.len(),
-                weights.as_mut_ptr(), weights.len(),
-                nodes.as_mut_ptr(), nodes.len(),
-                labels.as_mut_ptr(), labels.len(),
-                heap.as_mut_ptr(), heap.len(),
-            )
-        }
+        let Ours { ranks, fwd, bwd, scratch } = self;
+        let Columns { n, tails, heads, weights } = &call.links;
+        build_with_order(
+            *n, tails, heads, weights, &call.order,
+            call.limit, call.pool,
+            ranks,
+            &mut fwd.starts, &mut fwd.bases, &mut fwd.neighbours, &mut fwd.weights, &mut fwd.ins, &mut fwd.outs,
+            &mut bwd.starts, &mut bwd.bases, &mut bwd.neighbours, &mut bwd.weights, &mut bwd.ins, &mut bwd.outs,
+            &mut scratch.arcs, &mut scratch.weights, &mut scratch.nodes, &mut scratch.labels, &mut scratch.heap,
+        )
     }
 
     fn places(&self) -> Vec<Vec<u64>> {
-        let ranks = self.ranks.iter().map(|&rank| rank as u64).collect();
-        [ranks].into_iter().chain(self.fwd.places()).chain(self.bwd.places()).collect()
+        [wide(&self.ranks)].into_iter().chain(self.fwd.places()).chain(self.bwd.places()).collect()
     }
 }
 
@@ -174,7 +94,7 @@ impl Call {
                 pool,
                 scratch_short: false,
             },
-            scratch: scratch(nodes, pool),
+            scratch: Scratch::lengths(nodes, pool),
             filled: 77,
         }
     }
@@ -184,15 +104,12 @@ impl Call {
         let mut call = self.clone();
         call.pool = pool as u64;
         call.lent.pool = pool;
-        call.scratch = scratch(call.links.n, pool);
+        call.scratch = Scratch::lengths(call.links.n, pool);
         call
     }
 
     fn theirs(&self) -> (u32, Vec<Vec<u64>>) {
-        let ids = |column: &[u32]| column.iter().map(|&id| id as NodeId).collect::<Vec<_>>();
-        let weights: Vec<u64> = self.links.weights.iter().map(|&weight| weight as u64).collect();
-        let built = checked(self.links.n, &ids(&self.links.tails), &ids(&self.links.heads), &weights)
-            .and_then(|graph| build_within(&graph, &ids(&self.order), self.limit as usize, &self.lent));
+        let built = self.links.checked().and_then(|graph| build_within(&graph, &ids(&self.order), self.limit as usize, &self.lent));
         let number = *built.as_ref().err().unwrap_or(&0) as u32;
         (number, places(&self.lent, &built, self.filled as u64).into())
     }
@@ -232,9 +149,8 @@ fn edges(call: &Call, tally: &mut Tally) {
     let n = call.links.n;
     let (fwd, bwd) = (lent.fwd.starts[n] as usize, lent.bwd.starts[n] as usize);
     let graph = InputGraph::new(n, call.links.edges());
-    let order: Vec<NodeId> = call.order.iter().map(|&node| node as NodeId).collect();
     let enough = Room { pool: usize::MAX, fwd, bwd };
-    let Ok(peak) = contract_within(&graph, &order, call.limit as usize, &enough) else { fail("a build that passes has a peak") };
+    let Ok(peak) = contract_within(&graph, &ids(&call.order), call.limit as usize, &enough) else { fail("a build that passes has a peak") };
     let mut exact = call.with_pool(peak);
     exact.lent = Lent { ranks: n, fwd_starts: n + 1, bwd_starts: n + 1, fwd: [fwd; 5], bwd: [bwd; 5], ..exact.lent };
     let mut try_call = |call: &Call| tally.add(call.compare());
@@ -274,33 +190,13 @@ fn edges(call: &Call, tally: &mut Tally) {
     }
 }
 
-fn orders(nodes: usize) -> Vec<Vec<NodeId>> {
-    if nodes == 0 {
-        return vec![vec![]];
-    }
-    let shorter = orders(nodes - 1);
-    (0..nodes).flat_map(|at| shorter.iter().map(move |order| [&order[..at], &[nodes - 1], &order[at..]].concat())).collect()
-}
-
-/// Every graph of up to three nodes with weights 1 and 2, every order, limits 0 to 3.
 fn tiny() {
     let (mut plain, mut at_edges) = (Tally([0; 13]), Tally([0; 13]));
-    for nodes in 0..=3usize {
-        let pairs: Vec<(usize, usize)> =
-            (0..nodes).flat_map(|a| (0..nodes).filter(move |&b| a != b).map(move |b| (a, b))).collect();
-        for code in 0..3usize.pow(pairs.len() as u32) {
-            let weight = |k: usize| code / 3usize.pow(k as u32) % 3;
-            let edge = |(k, &(from, to)): (usize, &(usize, usize))| Edge { from, to, weight: weight(k) as u64 };
-            let graph = InputGraph::new(nodes, pairs.iter().enumerate().map(edge).filter(|e| e.weight > 0).collect());
-            for order in orders(nodes) {
-                for limit in 0..=3 {
-                    let call = Call::new(&graph, &order, limit);
-                    plain.add(call.compare());
-                    edges(&call, &mut at_edges);
-                }
-            }
-        }
-    }
+    tiny::each(|graph, order, limit| {
+        let call = Call::new(graph, order, limit as u32);
+        plain.add(call.compare());
+        edges(&call, &mut at_edges);
+    });
     plain.say("builds of all graphs of up to 3 nodes");
     at_edges.say("builds of them with just enough room and one place less");
 }
@@ -332,29 +228,6 @@ fn damage(numbers: &mut Rng, call: &mut Call) {
         10 => call.links.damage(numbers),
         _ => call.limit = u32::MAX,
     }
-}
-
-/// A random graph of up to 12 nodes, now and then of up to 40 or of up to 1,024.
-fn random_graph(numbers: &mut Rng, case: usize) -> InputGraph {
-    if case % 20_000 == 19_999 {
-        let nodes = 1024 - below(numbers, 200);
-        return sparse(numbers, nodes);
-    }
-    let nodes = below(numbers, if case % 100 == 0 { 41 } else { 13 });
-    if nodes > 12 { sparse(numbers, nodes) } else { links(numbers, nodes) }
-}
-
-fn sparse(numbers: &mut Rng, nodes: usize) -> InputGraph {
-    let heaviest = [1, 9, 4_294_967_295][below(numbers, 3)];
-    let mut ends = std::collections::BTreeSet::new();
-    for _ in 0..2 * nodes {
-        let (from, to) = (below(numbers, nodes), below(numbers, nodes));
-        if from != to {
-            ends.insert((from, to));
-        }
-    }
-    let edge = |(from, to)| Edge { from, to, weight: 1 + below(numbers, heaviest) as u64 };
-    InputGraph::new(nodes, ends.into_iter().map(edge).collect())
 }
 
 fn random(count: usize, seed: u64) {
@@ -415,7 +288,7 @@ pub fn race() {
         let graph = mesh(name);
         let (nodes, links) = (graph.get_num_nodes(), graph.get_edges().len());
         let order = chosen_order(&graph);
-        let built = build(&graph, &order);
+        let built = build(&graph, &order, LIMIT);
         let enough = Room { pool: usize::MAX, fwd: usize::MAX, bwd: usize::MAX };
         let Ok(peak) = contract_within(&graph, &order, LIMIT, &enough) else { fail("a pair sum exceeds 2^40") };
         let mut call = Call::new(&graph, &order, LIMIT as u32).with_pool(peak);
@@ -424,10 +297,10 @@ pub fn race() {
         if call.compare() != 0 {
             fail("a mesh was refused");
         }
-        let (ours, theirs) = best_of(
-            || Ours::lent(&call).build(&call) as usize,
-            || build(&graph, &order).ranks.len() * 0,
-        );
+        let [ours, theirs] = best_of([
+            &mut || Ours::lent(&call).build(&call) as usize,
+            &mut || build(&graph, &order, LIMIT).ranks.len() * 0,
+        ]);
         println!("{name:<10} {nodes:>5} {links:>6} {:>9.2} {:>9.2} {:>11.2}", 1e3 * ours, 1e3 * theirs, ours / theirs);
     }
 }

@@ -1,61 +1,33 @@
 //! Runs the proved preparation graph and the proved check of links beside the crate's graph and the refusals
 //! around it, on random graphs, changes and columns.
 
-use crate::answer::checked;
 use crate::changes::{Change, Pooled, Row};
 use crate::constants::{NodeId, INVALID_NODE};
+use crate::lent::{proved, Columns, Scratch};
 use crate::meshes::Rng;
-use crate::random::{below, links, Columns};
+use crate::random::{below, links};
 
-#[link(name = "graphs", kind = "static")]
-extern "C" {
-    #[rustfmt::skip]
-    fn graph_refusal(
-        n: usize,
-        tails: *const u32, tails_len: usize,
-        heads: *const u32, heads_len: usize,
-        link_weights: *const u32, link_weights_len: usize,
-    ) -> u32;
+#[rustfmt::skip]
+proved!("graphs", fn graph_refusal(
+    n: usize, tails: &[u32], heads: &[u32], link_weights: &[u32],
+) -> u32);
 
-    #[rustfmt::skip]
-    fn graph_changes(
-        n: usize, pool: u32,
-        tails: *const u32, tails_len: usize,
-        heads: *const u32, heads_len: usize,
-        link_weights: *const u32, link_weights_len: usize,
-        froms: *const u32, froms_len: usize,
-        tos: *const u32, tos_len: usize,
-        sums: *const u64, sums_len: usize,
-        centres: *const u32, centres_len: usize,
-        side: usize, v: u32,
-        answers: *mut u32, answers_len: usize,
-        rows: *mut u64, rows_len: usize,
-        arcs: *mut u32, arcs_len: usize,
-        weights: *mut u64, weights_len: usize,
-        nodes: *mut u32, nodes_len: usize,
-    ) -> u32;
-}
+#[rustfmt::skip]
+proved!("graphs", fn graph_changes(
+    n: usize, pool: u32, tails: &[u32], heads: &[u32], link_weights: &[u32],
+    froms: &[u32], tos: &[u32], sums: &[u64], centres: &[u32],
+    side: usize, v: u32,
+    answers: &mut [u32], rows: &mut [u64],
+    arcs: &mut [u32], weights: &mut [u64], nodes: &mut [u32],
+) -> u32);
 
 impl Columns {
-    #[rustfmt::skip]
     fn refusal(&self) -> u32 {
-        unsafe {
-            graph_refusal(
-                self.n,
-                self.tails.as_ptr(), self.tails.len(),
-                self.heads.as_ptr(), self.heads.len(),
-                self.weights.as_ptr(), self.weights.len(),
-            )
-        }
+        graph_refusal(self.n, &self.tails, &self.heads, &self.weights)
     }
 
     fn crates_refusal(&self) -> u32 {
-        let ids = |column: &[u32]| column.iter().map(|&id| id as NodeId).collect::<Vec<_>>();
-        let weights: Vec<u64> = self.weights.iter().map(|&weight| weight as u64).collect();
-        match checked(self.n, &ids(&self.tails), &ids(&self.heads), &weights) {
-            Ok(_) => 0,
-            Err(number) => number as u32,
-        }
+        self.checked().err().unwrap_or(0) as u32
     }
 
     /// The answers to the changes, and the list of v after them. What is lent holds rubbish before.
@@ -66,25 +38,14 @@ impl Columns {
         let sums: Vec<u64> = changes.iter().map(|c| c.weight).collect();
         let centres: Vec<u32> = changes.iter().map(|c| c.centre as u32).collect();
         let (mut answers, mut rows) = (vec![7u32; changes.len()], vec![7u64; 3 * pool]);
-        let (mut arcs, mut weights, mut nodes) = (vec![7u32; 6 * pool], vec![7u64; pool], vec![7u32; 4 * self.n]);
-        let count = unsafe {
-            graph_changes(
-                self.n, pool as u32,
-                self.tails.as_ptr(), self.tails.len(),
-                self.heads.as_ptr(), self.heads.len(),
-                self.weights.as_ptr(), self.weights.len(),
-                froms.as_ptr(), froms.len(),
-                tos.as_ptr(), tos.len(),
-                sums.as_ptr(), sums.len(),
-                centres.as_ptr(), centres.len(),
-                side, v as u32,
-                answers.as_mut_ptr(), answers.len(),
-                rows.as_mut_ptr(), rows.len(),
-                arcs.as_mut_ptr(), arcs.len(),
-                weights.as_mut_ptr(), weights.len(),
-                nodes.as_mut_ptr(), nodes.len(),
-            )
-        };
+        let Scratch { mut arcs, mut weights, mut nodes, .. } = Scratch::new(Scratch::lengths(self.n, pool));
+        let count = graph_changes(
+            self.n, pool as u32, &self.tails, &self.heads, &self.weights,
+            &froms, &tos, &sums, &centres,
+            side, v as u32,
+            &mut answers, &mut rows,
+            &mut arcs, &mut weights, &mut nodes,
+        );
         if count as usize == INVALID_NODE {
             crate::fail("the proved graph did not take what it was handed");
         }

@@ -70,18 +70,31 @@ mod beside_builds;
 mod beside_checks;
 #[cfg(beside = "graphs")]
 mod beside_graphs;
+#[cfg(beside = "queries")]
+mod beside_queries;
+#[cfg(beside = "records")]
+mod beside_records;
 mod changes;
 mod drawn;
+#[cfg(any(beside = "checks", beside = "queries"))]
+#[allow(dead_code)] // some parts may be left out
+mod hierarchies;
 mod json;
+#[cfg(beside)]
+#[allow(dead_code)] // some parts may be left out
+mod lent;
 mod meshes;
 #[cfg(beside)]
 #[allow(dead_code)] // some parts may be left out
 mod random;
+mod records;
 mod room;
 mod tables;
 mod timing;
+#[cfg(any(beside = "builds", beside = "queries"))]
+mod tiny;
 
-use std::io::{BufRead, BufWriter, Write};
+use std::io::{BufRead, BufWriter, Read, Write};
 use std::path::Path;
 
 /// One line on what is wrong, and out.
@@ -96,6 +109,7 @@ fn main() {
         ["answer"] => answer_all(false),
         ["drawn"] => drawn::lines(),
         ["answer", "--peak"] => answer_all(true),
+        ["records"] => answer_records(),
         #[cfg(beside)]
         ["beside", count, seed] => match (count.parse(), seed.parse()) {
             (Ok(count), Ok(seed)) => beside_all(count, seed),
@@ -103,7 +117,7 @@ fn main() {
         },
         ["time", "--write", folder, ref names @ ..] => timing::time(names, Some(Path::new(folder))),
         ["time", ref names @ ..] => timing::time(names, None),
-        _ => fail("usage: oracle answer [--peak] | oracle drawn | oracle time [--write FOLDER] [GRAPH ...]"),
+        _ => fail("usage: oracle answer [--peak] | oracle drawn | oracle records | oracle time [--write FOLDER] [GRAPH ...]"),
     }
 }
 
@@ -127,6 +141,13 @@ fn beside_all(count: usize, seed: u64) {
         beside_checks::compare(count, seed);
         beside_checks::race()
     }
+    #[cfg(beside = "queries")]
+    {
+        beside_queries::compare(count, seed);
+        beside_queries::race()
+    }
+    #[cfg(beside = "records")]
+    beside_records::compare(count, seed);
 }
 
 /// Standard input holds one case a line; each is printed again with its answer.
@@ -139,4 +160,13 @@ fn answer_all(with_peak: bool) {
             return; // whoever read the answers has gone
         }
     }
+}
+
+/// Standard input holds records; the record program's lines are printed.
+fn answer_records() {
+    let mut input = vec![];
+    if let Err(why) = std::io::stdin().read_to_end(&mut input) {
+        fail(&why.to_string());
+    }
+    let _ = std::io::stdout().write_all(records::lines(&input).as_bytes()); // whoever reads the lines may have gone
 }

@@ -1,7 +1,8 @@
-//! Random links, and links in the columns that the proved code is lent.
+//! Random graphs, and faults in their columns.
 
 use crate::constants::{MAX_LINKS, MAX_NODES};
 use crate::input_graph::{Edge, InputGraph};
+use crate::lent::Columns;
 use crate::meshes::Rng;
 
 pub fn below(numbers: &mut Rng, bound: usize) -> usize {
@@ -22,6 +23,37 @@ pub fn links(numbers: &mut Rng, nodes: usize) -> InputGraph {
     InputGraph::new(nodes, edges)
 }
 
+/// Up to 12 nodes, now and then up to 40 or up to 1,024.
+pub fn random_size(numbers: &mut Rng, case: usize) -> usize {
+    if case % 20_000 == 19_999 {
+        return 1024 - below(numbers, 200);
+    }
+    below(numbers, if case % 100 == 0 { 41 } else { 13 })
+}
+
+pub fn random_graph(numbers: &mut Rng, case: usize) -> InputGraph {
+    let nodes = random_size(numbers, case);
+    graph_of(numbers, nodes)
+}
+
+/// Few links where there are many nodes.
+pub fn graph_of(numbers: &mut Rng, nodes: usize) -> InputGraph {
+    if nodes > 12 { sparse(numbers, nodes) } else { links(numbers, nodes) }
+}
+
+fn sparse(numbers: &mut Rng, nodes: usize) -> InputGraph {
+    let heaviest = [1, 9, 4_294_967_295][below(numbers, 3)];
+    let mut ends = std::collections::BTreeSet::new();
+    for _ in 0..2 * nodes {
+        let (from, to) = (below(numbers, nodes), below(numbers, nodes));
+        if from != to {
+            ends.insert((from, to));
+        }
+    }
+    let edge = |(from, to)| Edge { from, to, weight: 1 + below(numbers, heaviest) as u64 };
+    InputGraph::new(nodes, ends.into_iter().map(edge).collect())
+}
+
 pub fn shuffled(numbers: &mut Rng, nodes: usize) -> Vec<usize> {
     let mut order: Vec<usize> = (0..nodes).collect();
     for k in (1..nodes).rev() {
@@ -30,30 +62,7 @@ pub fn shuffled(numbers: &mut Rng, nodes: usize) -> Vec<usize> {
     order
 }
 
-#[derive(Clone, Debug)]
-pub struct Columns {
-    pub n: usize,
-    pub tails: Vec<u32>,
-    pub heads: Vec<u32>,
-    pub weights: Vec<u32>,
-}
-
 impl Columns {
-    pub fn of(graph: &InputGraph) -> Columns {
-        let edges = graph.get_edges();
-        Columns {
-            n: graph.get_num_nodes(),
-            tails: edges.iter().map(|e| e.from as u32).collect(),
-            heads: edges.iter().map(|e| e.to as u32).collect(),
-            weights: edges.iter().map(|e| e.weight as u32).collect(),
-        }
-    }
-
-    pub fn edges(&self) -> Vec<Edge> {
-        let edge = |i: usize| Edge { from: self.tails[i] as usize, to: self.heads[i] as usize, weight: self.weights[i] as u64 };
-        (0..self.tails.len()).map(edge).collect()
-    }
-
     /// Puts a fault into them: a number changed, two links swapped, columns cut or grown, another count of nodes.
     pub fn damage(&mut self, numbers: &mut Rng) {
         let Columns { n, tails, heads, weights } = self;

@@ -27,10 +27,10 @@ pub fn time(names: &[&str], folder: Option<&Path>) {
         eprintln!("{name}: {nodes} nodes, {links} links; choosing the order");
         let (order, choosing) = timed(|| chosen_order(&graph));
         eprintln!("{name}: order chosen in {choosing:.1} s; building");
-        let (built, mut best) = timed(|| build(&graph, &order));
+        let (built, mut best) = timed(|| build(&graph, &order, LIMIT));
         let (mut runs, mut total) = (1, best);
         while runs < RUNS || total < SECONDS {
-            let (_, seconds) = timed(|| build(&graph, &order));
+            let (_, seconds) = timed(|| build(&graph, &order, LIMIT));
             best = best.min(seconds);
             total += seconds;
             runs += 1;
@@ -55,18 +55,21 @@ pub fn timed<T>(work: impl FnOnce() -> T) -> (T, f64) {
     (result, start.elapsed().as_secs_f64())
 }
 
-/// The best of nine runs of each, in turn; both must give the same.
+/// The best of nine runs of each, in turn; all must give the same.
 #[cfg(beside)]
 #[allow(dead_code)] // some parts may be left out
-pub fn best_of<T: PartialEq>(mut ours: impl FnMut() -> T, theirs: impl Fn() -> T) -> (f64, f64) {
-    let mut least = (f64::MAX, f64::MAX);
+pub fn best_of<T: PartialEq, const N: usize>(mut runs: [&mut dyn FnMut() -> T; N]) -> [f64; N] {
+    let mut least = [f64::MAX; N];
+    let mut given = None;
     for _ in 0..9 {
-        let (ours, seconds) = timed(&mut ours);
-        least.0 = least.0.min(seconds);
-        let (theirs, seconds) = timed(&theirs);
-        least.1 = least.1.min(seconds);
-        if ours != theirs {
-            fail("a mesh came out otherwise");
+        for (run, least) in runs.iter_mut().zip(&mut least) {
+            let (result, seconds) = timed(run);
+            *least = least.min(seconds);
+            match &given {
+                None => given = Some(result),
+                Some(given) if *given == result => {}
+                Some(_) => fail("a mesh came out otherwise"),
+            }
         }
     }
     least
@@ -81,8 +84,8 @@ pub fn chosen_order(graph: &InputGraph) -> Vec<NodeId> {
     order
 }
 
-pub fn build(graph: &InputGraph, order: &[NodeId]) -> FastGraph {
-    let params = ParamsWithOrder::new(LIMIT);
+pub fn build(graph: &InputGraph, order: &[NodeId], limit: usize) -> FastGraph {
+    let params = ParamsWithOrder::new(limit);
     FastGraphBuilder::build_with_order_with_params(graph, order, &params).unwrap_or_else(|why| fail(&why))
 }
 

@@ -24,7 +24,8 @@ use Rattle.rules.proofs.Positions.{position-below, position-passes, position-fi
 use Rattle.rules.proofs.Prefixes.{prefix, prefix-next, prefix-most, sums-at, sums-length, sizes, flat-length, flat-at, in-flat, flat-in, over-at, over-length, map-at, range-length, range-at}
 use Rattle.rules.proofs.Ranks.{level-size, same-sizes}
 use Rattle.rules.specs.Accepted.{AcceptedBuild}
-use Rattle.build_laws.proofs.Levels.{rank-of, Opened, LevelOk, own-end, apart-same}
+use Rattle.build_laws.specs.Runs.{rank-of, Opened, LevelOk, own-end}
+use Rattle.build_laws.proofs.Levels.{apart-same}
 use Rattle.build_laws.proofs.Starts.{Contracted, ranked}
 
 -- nothing, where a list is asked beyond its end
@@ -160,20 +161,20 @@ module _ (c : BuildCall) (ok : AcceptedBuild c) (small : (w : ℕ) → In w (c .
       )
 
   -- the rank of a node is its place in the order
-  pub rank-is : (v : ℕ) → v < c .nodes → rank built-tables v ≡ rank-of (c .order) links v
+  pub rank-is : (v : ℕ) → v < c .nodes → rank built-tables v ≡ rank-of (c .order) v
   unfolding rank finish-contraction
   rank-is v h = over-at (c .lent .ranks) (ranks-of (c .order) (c .nodes)) v invalid (rw (ranks-length (c .order) (c .nodes)) h) ∙ ranks-at (c .order) (c .nodes) v invalid h
 
-  pub rank-at : (r : ℕ) → r < c .nodes → rank-of (c .order) links (getD (c .order) r 0) ≡ r
+  pub rank-at : (r : ℕ) → r < c .nodes → rank-of (c .order) (getD (c .order) r 0) ≡ r
   rank-at r h =
       let inside : r < length (c .order) = omega (arith, ok .order-length) in
       let first = position-first (eqb (getD (c .order) r 0)) (c .order) r 0 inside (eq-eqb (getD (c .order) r 0) _ refl) in
       differ _ r (omega arith) inside (position-is (c .order) (getD (c .order) r 0) 0 (omega arith))
 
   -- a node in the order is below the count
-  pub ranked-below : (v : ℕ) → rank-of (c .order) links v < length (c .order) → v < c .nodes
+  pub ranked-below : (v : ℕ) → rank-of (c .order) v < length (c .order) → v < c .nodes
   ranked-below v h =
-      ok .order-below v (Memᴰ·cast (sym (position-is (c .order) v 0 h)) (getD-in (c .order) (rank-of (c .order) links v) 0 h))
+      ok .order-below v (Memᴰ·cast (sym (position-is (c .order) v 0 h)) (getD-in (c .order) (rank-of (c .order) v) 0 h))
 
   -- two levels of one node are one
   one-level : (l k : Level) → In l L → In k L → l .node ≡ k .node → l ≡ k
@@ -290,7 +291,7 @@ module _ (c : BuildCall) (ok : AcceptedBuild c) (small : (w : ℕ) → In w (c .
 
   -- an arc with a centre opens into two entries of its centre's level
   pub opens : (s : Side) (l : Level) → In l L → (x : Arc) → In x (arcs-of s l) →
-      Opened (c .order) links L (rank-of (c .order) links (l .node)) x → Opens n h s (opened s (raw s (l .node) x))
+      Opened (c .order) L (rank-of (c .order) (l .node)) x → Opens n h s (opened s (raw s (l .node) x))
   unfolding raw neighbour-of table arcs-of
   opens s l ml x mx o =
       let e = opened s (raw s (l .node) x) in
@@ -328,7 +329,7 @@ module _ (c : BuildCall) (ok : AcceptedBuild c) (small : (w : ℕ) → In w (c .
 
   -- the entry of every arc of a level is as the table rules ask
   arc-rules : (s : Side) (l : Level) → In l L → (x : Arc) → In x (arcs-of s l) →
-      EntryRules n h s (rank-of (c .order) links (l .node)) (opened s (raw s (l .node) x))
+      EntryRules n h s (rank-of (c .order) (l .node)) (opened s (raw s (l .node) x))
   unfolding raw
   arc-rules s l ml x mx =
       let kept = finish-keeps (raws forward L) (raws backward L) s (raw s (l .node) x) in
@@ -353,7 +354,7 @@ module _ (c : BuildCall) (ok : AcceptedBuild c) (small : (w : ℕ) → In w (c .
   pub record At (s : Side) (r e : ℕ) : Type 0 where
     pub level : Level
     pub written : In level L
-    pub node-rank : rank-of (c .order) links (level .node) ≡ r
+    pub node-rank : rank-of (c .order) (level .node) ≡ r
     pub arc : Arc
     pub arc-in : In arc (arcs-of s level)
     pub is : entry (table h s) e ≡ opened s (raw s (level .node) arc)
@@ -380,7 +381,7 @@ module _ (c : BuildCall) (ok : AcceptedBuild c) (small : (w : ℕ) → In w (c .
       record {
         level = l;
         written = at .1;
-        node-rank = ap (λ v. rank-of (c .order) links v) (at .0) ∙ rank-at r hr;
+        node-rank = ap (λ v. rank-of (c .order) v) (at .0) ∙ rank-at r hr;
         arc = getD (arcs-of s l) i no-arc;
         arc-in = getD-in (arcs-of s l) i no-arc k;
         is =

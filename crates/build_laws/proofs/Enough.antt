@@ -22,8 +22,9 @@ use Rattle.rules.proofs.Prefixes.{flat-map-append}
 use Rattle.rules.proofs.Ranks.{level-of, with-level, level-size}
 use Rattle.rules.proofs.Numbers.{went-only, pool-leaf, tables-leaf}
 use Rattle.rules.specs.Accepted.{AcceptedBuild}
-use Rattle.build_laws.proofs.Levels.{rank-of, LevelOk, level-ok}
-use Rattle.build_laws.proofs.Runs.{RunOk, next-rank, next-inside}
+use Rattle.build_laws.specs.Runs.{rank-of, LevelOk, RunOk}
+use Rattle.build_laws.proofs.Levels.{level-ok}
+use Rattle.build_laws.proofs.Runs.{next-rank, next-inside}
 use Rattle.build_laws.proofs.Room.{codes-distinct, live-most}
 use Rattle.build_laws.proofs.BuiltTables.{ends-by-side}
 use Rattle.build_laws.proofs.Refused.{contraction-only}
@@ -49,7 +50,7 @@ triangle-twice (suc n) = triangle-next n ∙ ap (λ k. suc n * k) (omega arith)
 
 -- a level of rank r has at most n - 1 - r arcs a side: the neighbours' ranks are higher, and differ
 pub level-short : (order : List ℕ) (ls : List Link) (levels : List Level) (l : Level) → LevelOk order ls levels l → (s : Side) →
-    length (arcs-of s l) ≤ length order - suc (rank-of order ls (l .node))
+    length (arcs-of s l) ≤ length order - suc (rank-of order (l .node))
 level-short order ls levels l ok s =
     omega (
       arith,
@@ -62,10 +63,10 @@ level-short order ls levels l ok s =
     )
   where
     r : ℕ
-    r = rank-of order ls (l .node)
+    r = rank-of order (l .node)
 
     code : Arc → ℕ
-    code x = rank-of order ls (neighbour-of s x) - suc r
+    code x = rank-of order (neighbour-of s x) - suc r
 
     told : (x y : Arc) → In x (arcs-of s l) → In y (arcs-of s l) → code x ≡ code y → (x .tail ≡ y .tail) × (x .head ≡ y .head)
     told x y mx my e =
@@ -99,7 +100,7 @@ module _ (c : BuildCall) (ok : AcceptedBuild c) (small : (w : ℕ) → In w (c .
   abbrev differ : Differ (c .order) 0
   differ = distinct-decides (c .order) 0 .0 (ok .order-distinct)
 
-  left-next : (v : ℕ) (vs : List ℕ) (b : Building) → RunOk c (linkList (c .links)) 0 differ (v ∷ vs) b → Left (b .levels) → Left (with-level (b .levels) v (b .graph))
+  left-next : (v : ℕ) (vs : List ℕ) (b : Building) → RunOk c (linkList (c .links)) (v ∷ vs) b → Left (b .levels) → Left (with-level (b .levels) v (b .graph))
   unfolding raws flat-map
   left-next v vs b run x s =
       let inside = next-inside c (linkList (c .links)) 0 differ v vs b run in

@@ -1,18 +1,17 @@
--- What holds of every graph that a build meets, and of every level that it writes.
+-- A build keeps what holds of its graphs and its levels.
 use mathlib.Core.Path.{_≡_, refl, sym, _∙_, ap}
 use mathlib.Core.Logic.{_⊎_, inl, inr}
 use mathlib.Core.Bool.{Bool, false≢true}
-use mathlib.Core.List.{List, [], _∷_, List·Memᴰ·head, List·Memᴰ·tail, List·Memᴰ·cases-cons, List·Memᴰ·not-nil, List·Memᴰ·eq-of-singleton, Memᴰ·append-left, Memᴰ·append-right}
+use mathlib.Core.List.{List, [], _∷_, List·Memᴰ·head, List·Memᴰ·cases-cons, List·Memᴰ·not-nil, Memᴰ·append-left, Memᴰ·append-right}
 use Prim.Native.Nat.{ℕ, suc, _+_, _≤_, _<_}
 use native.Mathlib.Omega.{arith}
 use native.Mathlib.Decide.{ℕ-discrete}
-use lib.Dec.{eqb, leb}
 use lib.ListN.{length}
 use borrow.Author.Tests.{eq-eqb}
-use Rattle.rules.specs.Numbers.{maxWeight, invalid}
-use Rattle.rules.specs.Lists.{In, keep, position}
-use Rattle.rules.specs.Columns.{Link, Side, forward, backward}
-use Rattle.rules.specs.Graph.{Arc, outs, ins, joins, Loopless, Apart, reduce, addOrReduce, disconnect}
+use Rattle.rules.specs.Numbers.{maxWeight}
+use Rattle.rules.specs.Lists.{In, keep}
+use Rattle.rules.specs.Columns.{Link, forward, backward}
+use Rattle.rules.specs.Graph.{Arc, outs, ins, joins, Apart, reduce, addOrReduce, disconnect}
 use Rattle.rules.specs.Build.{went, shortcut, contract-node, Level, arcs-of, neighbour-of}
 use Rattle.rules.proofs.Arcs.{joined-ends}
 use Rattle.rules.proofs.Decides.{both-and}
@@ -20,8 +19,8 @@ use Rattle.rules.proofs.Cases.{on-test}
 use Rattle.rules.proofs.Members.{in-keep}
 use Rattle.rules.proofs.Positions.{same-position}
 use Rattle.rules.proofs.Ranks.{level-of, with-level}
-use Rattle.walks.specs.Walks.{Linked}
 use Rattle.search_laws.proofs.Graphs.{in-outs, in-ins, in-disconnected, reduced, in-added}
+use Rattle.build_laws.specs.Runs.{rank-of, Later, ArcOk, GraphOk, own-end, LevelOk}
 use Rattle.build_laws.proofs.Contraction.{shortcuts-keep, contracted}
 
 keep-apart : (p : Arc → Bool) (g : List Arc) → Apart g → Apart (keep p g)
@@ -92,56 +91,11 @@ apart-same (z ∷ g) a x y mx my p q =
           ]
     ]
 
--- the end of an arc whose list it stands in
-unfoldable pub own-end : Side → Arc → ℕ
-own-end forward x = x .tail
-own-end backward x = x .head
-
 -- Over a fixed order and the input links.
 module _ (order : List ℕ) (ls : List Link) where
-  -- where a node stands in the order; its length where it does not
-  abbrev pub rank-of : ℕ → ℕ
-  rank-of u = position (eqb u) order
-
-  -- not contracted before rank r
-  abbrev pub Later : ℕ → ℕ → Type 0
-  Later r u = (r ≤ rank-of u) × (rank-of u < length order)
-
-  -- "an arc without centre is an input link; an arc with centre c sums an in-arc and an out-arc of c, which stand in a
-  -- level of lower rank"
-  pub record Opened (levels : List Level) (r : ℕ) (x : Arc) : Type 0 where
-    pub level : Level
-    pub written : In level levels
-    pub lower : rank-of (level .node) < r
-    pub node : level .node ≡ x .centre
-    pub into : Arc
-    pub into-in : In into (level .ins)
-    pub into-tail : into .tail ≡ x .tail
-    pub out : Arc
-    pub out-in : In out (level .outs)
-    pub out-head : out .head ≡ x .head
-    pub sum : into .weight + out .weight ≡ x .weight
-
-  abbrev pub Centred : List Level → ℕ → Arc → Type 0
-  Centred levels r x =
-      ((x .centre ≡ invalid) × Linked ls (x .tail) (x .head) (x .weight)) ⊎ Opened levels r x
-
-  pub record ArcOk (levels : List Level) (r : ℕ) (x : Arc) : Type 0 where
-    pub low : 1 ≤ x .weight
-    pub high : x .weight ≤ maxWeight
-    pub centred : Centred levels r x
-
-  -- a graph whose arcs join nodes of ranks from r on, with centres of ranks below t
-  pub record GraphOk (levels : List Level) (r t : ℕ) (g : List Arc) : Type 0 where
-    pub loopless : Loopless g
-    pub apart : Apart g
-    pub tails : (x : Arc) → In x g → Later r (x .tail)
-    pub heads : (x : Arc) → In x g → Later r (x .head)
-    pub arcs : (x : Arc) → In x g → ArcOk levels t x
-
   -- more levels, and higher ranks
   module _ {levels more : List Level} (sub : (l : Level) → In l levels → In l more) {r t : ℕ} (up : r ≤ t) where
-    pub arc-more : {x : Arc} → ArcOk levels r x → ArcOk more t x
+    pub arc-more : {x : Arc} → ArcOk order ls levels r x → ArcOk order ls more t x
     arc-more a =
         record {
           low = a .low;
@@ -167,7 +121,7 @@ module _ (order : List ℕ) (ls : List Link) where
               ];
         }
 
-    graph-more : (low : ℕ) (g : List Arc) → GraphOk levels low r g → GraphOk more low t g
+    graph-more : (low : ℕ) (g : List Arc) → GraphOk order ls levels low r g → GraphOk order ls more low t g
     graph-more low g k =
         record {
           loopless = k .loopless;
@@ -178,14 +132,14 @@ module _ (order : List ℕ) (ls : List Link) where
         }
 
   -- Contracting the node v of rank r, whose level is written.
-  module _ (pool limit v r : ℕ) (at : rank-of v ≡ r) (levels : List Level) (g : List Arc) (ok : GraphOk levels r r g) where
-    pub before : GraphOk (with-level levels v g) r (suc r) g
+  module _ (pool limit v r : ℕ) (at : rank-of order v ≡ r) (levels : List Level) (g : List Arc) (ok : GraphOk order ls levels r r g) where
+    pub before : GraphOk order ls (with-level levels v g) r (suc r) g
     before = graph-more (λ l m. Memᴰ·append-left (level-of v g ∷ []) m) (omega arith) r g ok
 
     -- a shortcut keeps it
     pub adds : (a b : Arc) (k : List Arc) → In a (ins g v) → In b (outs g v) → (a .tail ≡ b .head → ⊥) →
-        a .weight + b .weight ≤ maxWeight → GraphOk (with-level levels v g) r (suc r) k →
-        GraphOk (with-level levels v g) r (suc r) (addOrReduce (shortcut pool limit v a b) k)
+        a .weight + b .weight ≤ maxWeight → GraphOk order ls (with-level levels v g) r (suc r) k →
+        GraphOk order ls (with-level levels v g) r (suc r) (addOrReduce (shortcut pool limit v a b) k)
     unfolding shortcut
     adds a b k ma mb off small x =
         record {
@@ -235,21 +189,21 @@ module _ (order : List ℕ) (ls : List Link) where
         added y m = in-added (shortcut pool limit v a b) k y m
 
     -- of another node than v the rank is another
-    other : (u : ℕ) → Later r u → (u ≡ v → ⊥) → Later (suc r) u
+    other : (u : ℕ) → Later order r u → (u ≡ v → ⊥) → Later order (suc r) u
     other u l off = (
-      elim (ℕ-discrete (rank-of u) r) [
+      elim (ℕ-discrete (rank-of order u) r) [
         | yes same ↦ absurd (off (same-position order u v (same ∙ sym at) (l .1)))
         | no more ↦ omega (arith, l .0)
       ],
       l .1,
     )
 
-    pub contracted-ok : (k : List Arc) → contract-node pool limit v g ≡ went k → GraphOk (with-level levels v g) (suc r) (suc r) k
+    pub contracted-ok : (k : List Arc) → contract-node pool limit v g ≡ went k → GraphOk order ls (with-level levels v g) (suc r) (suc r) k
     unfolding disconnect
     contracted-ok k e =
         let c = contracted pool limit v g k (ok .loopless) e in
         let x =
-        shortcuts-keep pool limit v (GraphOk (with-level levels v g) r (suc r)) (ins g v) (outs g v) g (c .0)
+        shortcuts-keep pool limit v (GraphOk order ls (with-level levels v g) r (suc r)) (ins g v) (outs g v) g (c .0)
         (λ a b k ma mb off small _ y. adds a b k ma mb off small y)
         (c .1)
         before
@@ -265,15 +219,7 @@ module _ (order : List ℕ) (ls : List Link) where
           arcs = λ y m. x .arcs y (in-disconnected (c .0) v y m .0);
         })
 
-  -- What a level holds: a node's arcs when its turn came.
-  pub record LevelOk (levels : List Level) (l : Level) : Type 0 where
-    pub node-in : rank-of (l .node) < length order
-    pub own : (s : Side) (x : Arc) → In x (arcs-of s l) → own-end s x ≡ l .node
-    pub higher : (s : Side) (x : Arc) → In x (arcs-of s l) → Later (suc (rank-of (l .node))) (neighbour-of s x)
-    pub arcs : (s : Side) (x : Arc) → In x (arcs-of s l) → ArcOk levels (rank-of (l .node)) x
-    pub apart : (s : Side) → Apart (arcs-of s l)
-
-  pub level-more : {levels more : List Level} → ((l : Level) → In l levels → In l more) → (l : Level) → LevelOk levels l → LevelOk more l
+  pub level-more : {levels more : List Level} → ((l : Level) → In l levels → In l more) → (l : Level) → LevelOk order ls levels l → LevelOk order ls more l
   level-more sub l k =
       record {
         node-in = k .node-in;
@@ -283,8 +229,8 @@ module _ (order : List ℕ) (ls : List Link) where
         apart = k .apart;
       }
 
-  module _ (v r : ℕ) (at : rank-of v ≡ r) (inside : r < length order) (levels : List Level) (g : List Arc) (ok : GraphOk levels r r g) where
-    pub level-ok : LevelOk (with-level levels v g) (level-of v g)
+  module _ (v r : ℕ) (at : rank-of order v ≡ r) (inside : r < length order) (levels : List Level) (g : List Arc) (ok : GraphOk order ls levels r r g) where
+    pub level-ok : LevelOk order ls (with-level levels v g) (level-of v g)
     unfolding arcs-of own-end neighbour-of outs ins
     level-ok =
         record {
@@ -309,5 +255,5 @@ module _ (order : List ℕ) (ls : List Link) where
           apart = elim [ forward ↦ keep-apart _ g (ok .apart) | backward ↦ keep-apart _ g (ok .apart) ];
         }
       where
-        more : (x : Arc) → In x g → ArcOk (with-level levels v g) (rank-of v) x
+        more : (x : Arc) → In x g → ArcOk order ls (with-level levels v g) (rank-of order v) x
         more x m = rw at (arc-more (λ l n. Memᴰ·append-left _ n) (omega arith) (ok .arcs x m))

@@ -1,5 +1,5 @@
 -- A pool of n(n - 1) places is as good as any larger one.
-use mathlib.Core.Path.{_≡_, refl, sym, _∙_, ap}
+use mathlib.Core.Path.{_≡_, refl, _∙_, ap}
 use mathlib.Core.List.{List, [], _∷_, List·Memᴰ·head, List·Memᴰ·tail, List·Memᴰ·eq-of-singleton}
 use Prim.Native.Nat.{ℕ, suc, _+_, _-_, _*_, _≤_}
 use native.Mathlib.Omega.{arith}
@@ -8,18 +8,19 @@ use lib.ListN.{length}
 use borrow.Author.Tests.{eqb-false, ltb-false, le-leb}
 use Rattle.rules.specs.Numbers.{maxLinkWeight, maxWeight}
 use Rattle.rules.specs.Lists.{In}
-use Rattle.rules.specs.Columns.{linkList, room}
+use Rattle.rules.specs.Columns.{linkList}
 use Rattle.rules.specs.Refusals.{BuildCall}
-use Rattle.rules.specs.Graph.{Arc, outs, ins, addOrReduce, disconnect}
+use Rattle.rules.specs.Graph.{Arc, outs, ins, addOrReduce}
 use Rattle.rules.specs.Search.{init, find-max-weight}
-use Rattle.rules.specs.Build.{Step, went, refused, and-then, in-pool, from-links, graph-of, Contracting, shortcut, add, unless-witness, ask, within-sum, pair, pairs-of, handle-shortcuts, contract-node, in-tables, Level, Building, rank-step, rank-steps, contraction}
+use Rattle.rules.specs.Build.{Step, went, refused, and-then, in-pool, from-links, graph-of, Contracting, shortcut, add, unless-witness, ask, within-sum, pair, pairs-of, handle-shortcuts, contract-node, Level, Building, rank-step, rank-steps, contraction}
 use Rattle.rules.proofs.Cases.{on-test}
 use Rattle.rules.proofs.Ranges.{distinct-decides}
 use Rattle.rules.proofs.Ranks.{rank-stepped, with-level}
 use Rattle.rules.specs.Accepted.{AcceptedBuild}
 use Rattle.build_laws.proofs.Contraction.{Adds, pair-keeps, pairs-of-keeps, pool-held}
-use Rattle.build_laws.proofs.Levels.{GraphOk, before, adds}
-use Rattle.build_laws.proofs.Runs.{RunOk, next-rank, step-ok}
+use Rattle.build_laws.specs.Runs.{GraphOk, RunOk}
+use Rattle.build_laws.proofs.Levels.{before, adds}
+use Rattle.build_laws.proofs.Runs.{next-rank, step-ok}
 use Rattle.build_laws.proofs.Starts.{first-run}
 use Rattle.build_laws.proofs.Room.{live-most}
 
@@ -94,7 +95,7 @@ module _ (c : BuildCall) (ok : AcceptedBuild c) (small : (w : ℕ) → In w (c .
       omega (arith, live-most (c .order) (linkList (c .links)) levels r t g k, ap (λ m. m * (m - 1)) (ok .order-length))
 
   abbrev Run : List ℕ → Building → Type 0
-  Run vs b = RunOk c (linkList (c .links)) 0 (distinct-decides (c .order) 0 .0 (ok .order-distinct)) vs b
+  Run vs b = RunOk c (linkList (c .links)) vs b
 
   step-same : (v : ℕ) (vs : List ℕ) (b : Building) → Run (v ∷ vs) b → rank-step (with-pool c p) v b ≡ rank-step c v b
   unfolding rank-step contract-node

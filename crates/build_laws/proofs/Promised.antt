@@ -24,7 +24,7 @@ use Rattle.rules.specs.Accepted.{AcceptedBuild}
 use Rattle.walks.specs.Walks.{Linked}
 use Rattle.walks.specs.Promise.{Entries, Promise}
 use Rattle.walks.proofs.Paths.{Lighter, lighter-path}
-use Rattle.build_laws.proofs.Levels.{rank-of, own-end}
+use Rattle.build_laws.specs.Runs.{rank-of, own-end}
 use Rattle.build_laws.proofs.Runs.{LevelEdges}
 use Rattle.build_laws.proofs.Room.{codes-distinct}
 use Rattle.build_laws.proofs.Starts.{Contracted}
@@ -127,7 +127,7 @@ module _ (c : BuildCall) (ok : AcceptedBuild c) (small : (w : ℕ) → In w (c .
       in
       let at : rank tables u ≡ k .rank =
       rank-is c ok small b done u (rw node at (node-below c ok small b done l m)) ∙
-      ap (λ y. rank-of (c .order) (linkList (c .links)) y) (sym same) ∙ k .at .node-rank
+      ap (λ y. rank-of (c .order) y) (sym same) ∙ k .at .node-rank
       in
       (e, rw at (range-in _ _ e (k .low) (k .high)), f .1 .neighbour ∙ nb, f .1 .weight ∙ weight)
 

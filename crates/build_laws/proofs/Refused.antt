@@ -12,7 +12,7 @@ use Rattle.rules.specs.Columns.{Link, linkList, forward, backward, room}
 use Rattle.rules.specs.Refusals.{BuildCall, build-refusal}
 use Rattle.rules.specs.Graph.{Arc, outs, ins}
 use Rattle.rules.specs.Search.{init, find-max-weight}
-use Rattle.rules.specs.Build.{went, refused, in-pool, from-links, Contracting, shortcut, add, unless-witness, ask, within-sum, pair, pairs-of, handle-shortcuts, contract-node, Level, in-tables, Building, rank-step, rank-steps, contraction, finish-contraction, build}
+use Rattle.rules.specs.Build.{went, in-pool, from-links, Contracting, shortcut, add, unless-witness, ask, within-sum, pair, pairs-of, handle-shortcuts, contract-node, Level, in-tables, Building, rank-step, rank-steps, contraction, finish-contraction, build}
 use Rattle.rules.specs.Lists.{In}
 use Rattle.rules.proofs.Cases.{on-test}
 use Rattle.rules.proofs.Accepted.{accepted-build}
@@ -22,8 +22,9 @@ use Rattle.rules.proofs.Outcomes.{early, late, whole, ended}
 use Rattle.rules.specs.Accepted.{AcceptedBuild}
 use Rattle.walks.specs.Promise.{Promise}
 use Rattle.build_laws.proofs.Contraction.{Adds, pair-keeps, pairs-of-keeps, pool-held}
-use Rattle.build_laws.proofs.Levels.{rank-of, GraphOk, before, adds}
-use Rattle.build_laws.proofs.Runs.{RunOk, step-ok, next-rank}
+use Rattle.build_laws.specs.Runs.{rank-of, GraphOk, RunOk}
+use Rattle.build_laws.proofs.Levels.{before, adds}
+use Rattle.build_laws.proofs.Runs.{step-ok, next-rank}
 use Rattle.build_laws.proofs.Starts.{first-building, first-run, links-ok, contraction-went}
 use Rattle.build_laws.proofs.Promised.{promise}
 
@@ -39,7 +40,7 @@ module _ (P : ℕ → Type 0) where
     differ = distinct-decides (c .order) 0 .0 (ok .order-distinct)
 
     -- contracting v, of rank r
-    module _ (v r : ℕ) (at : rank-of (c .order) ls v ≡ r) (levels : List Level) (g : List Arc) (gok : GraphOk (c .order) ls levels r r g) where
+    module _ (v r : ℕ) (at : rank-of (c .order) v ≡ r) (levels : List Level) (g : List Arc) (gok : GraphOk (c .order) ls levels r r g) where
       abbrev Mid : List Arc → Type 0
       Mid k = GraphOk (c .order) ls (with-level levels v g) r (suc r) k
 
@@ -105,11 +106,11 @@ module _ (P : ℕ → Type 0) where
 
     -- the run over the order, with what else may hold of every state, B
     module _ (B : Building → Type 0)
-        (tables-only : (v : ℕ) (vs : List ℕ) (b : Building) → RunOk c ls 0 differ (v ∷ vs) b → B b →
+        (tables-only : (v : ℕ) (vs : List ℕ) (b : Building) → RunOk c ls (v ∷ vs) b → B b →
         Only P (in-tables (room (c .lent .forward)) (room (c .lent .backward)) (with-level (b .levels) v (b .graph))))
-        (next : (v : ℕ) (vs : List ℕ) (b k : Building) → RunOk c ls 0 differ (v ∷ vs) b → Stepped c v b k → B b → B k)
+        (next : (v : ℕ) (vs : List ℕ) (b k : Building) → RunOk c ls (v ∷ vs) b → Stepped c v b k → B b → B k)
         (first : B (first-building c ok small)) where
-      steps-only : (vs : List ℕ) (b : Building) → RunOk c ls 0 differ vs b → B b → Only P (rank-steps c vs b)
+      steps-only : (vs : List ℕ) (b : Building) → RunOk c ls vs b → B b → Only P (rank-steps c vs b)
       unfolding rank-steps rank-step
       steps-only [] b run x = went-only P b
       steps-only (v ∷ vs) b run x =

@@ -18,7 +18,7 @@ use Rattle.rules.proofs.Cases.{on-test}
 use Rattle.rules.proofs.Members.{in-map, any-same}
 use Rattle.rules.proofs.Positions.{same-position}
 use Rattle.rules.proofs.Pigeonhole.{at-most, distinct-more}
-use Rattle.build_laws.proofs.Levels.{rank-of, GraphOk}
+use Rattle.build_laws.specs.Runs.{rank-of, GraphOk}
 
 same-ends-join : (x y : Arc) → x .tail ≡ y .tail → x .head ≡ y .head → joins x y ≡ true
 unfolding joins
@@ -83,7 +83,7 @@ skip-told k i j offi offj =
 
 module _ (order : List ℕ) (ls : List Link) (levels : List Level) (r t : ℕ) (g : List Arc) (ok : GraphOk order ls levels r t g) where
   abbrev rk : ℕ → ℕ
-  rk u = rank-of order ls u
+  rk u = rank-of order u
 
   code : Arc → ℕ
   code x = rk (x .tail) * (length order - 1) + skip (rk (x .tail)) (rk (x .head))

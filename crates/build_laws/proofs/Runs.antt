@@ -24,8 +24,9 @@ use Rattle.rules.proofs.Ranks.{level-of, with-level, Stepped, rank-stepped}
 use Rattle.walks.specs.Paths.{Edges, Path, stay, step}
 use Rattle.walks.proofs.Paths.{last-edge}
 use Rattle.search_laws.proofs.Graphs.{Arcs, outs-in, ins-in}
+use Rattle.build_laws.specs.Runs.{rank-of, Later, LevelOk, RunOk}
 use Rattle.build_laws.proofs.Contraction.{contraction-keeps}
-use Rattle.build_laws.proofs.Levels.{rank-of, Later, GraphOk, LevelOk, level-ok, level-more, contracted-ok}
+use Rattle.build_laws.proofs.Levels.{level-ok, level-more, contracted-ok}
 
 -- the levels' edges, by side
 abbrev pub LevelEdges : List Level → Side → Edges
@@ -37,18 +38,12 @@ LevelUpDown ls a b w =
     (m : ℕ) × (x : ℕ) × (y : ℕ) × Path (LevelEdges ls forward) m a x × Path (LevelEdges ls backward) m b y × (x + y ≤ w)
 
 module _ (c : BuildCall) (ls : List Link) (d : ℕ) (differ : Differ (c .order) d) where
-  rank-at : (k : ℕ) → k < length (c .order) → rank-of (c .order) ls (getD (c .order) k d) ≡ k
+  rank-at : (k : ℕ) → k < length (c .order) → rank-of (c .order) (getD (c .order) k d) ≡ k
   rank-at k h =
       let first = position-first (eqb (getD (c .order) k d)) (c .order) k d h (eq-eqb (getD (c .order) k d) _ refl) in
       differ _ k (omega arith) h (position-is (c .order) (getD (c .order) k d) d (omega arith))
 
-  -- where the run stands: the levels' nodes and the rest are the order
-  pub record RunOk (vs : List ℕ) (b : Building) : Type 0 where
-    pub nodes : map (λ l. l .node) (b .levels) ++ vs ≡ c .order
-    pub levels : (l : Level) → In l (b .levels) → LevelOk (c .order) ls (b .levels) l
-    pub graph : GraphOk (c .order) ls (b .levels) (length (b .levels)) (length (b .levels)) (b .graph)
-
-  module _ (v : ℕ) (vs : List ℕ) (b : Building) (ok : RunOk (v ∷ vs) b) where
+  module _ (v : ℕ) (vs : List ℕ) (b : Building) (ok : RunOk c ls (v ∷ vs) b) where
     pub next-inside : length (b .levels) < length (c .order)
     next-inside = omega (arith, simp (length-append, length-map) at (ap length (ok .nodes)))
 
@@ -57,10 +52,10 @@ module _ (c : BuildCall) (ls : List Link) (d : ℕ) (differ : Differ (c .order) 
         rw (← (ok .nodes), ← (length-map (b .levels) (λ l. l .node)))
         (getD-append-seam (map (λ l. l .node) (b .levels)) v vs d)
 
-    pub next-rank : rank-of (c .order) ls v ≡ length (b .levels)
+    pub next-rank : rank-of (c .order) v ≡ length (b .levels)
     next-rank = rw next-here at (rank-at (length (b .levels)) next-inside)
 
-    pub step-ok : (k : Building) → Stepped c v b k → RunOk vs k
+    pub step-ok : (k : Building) → Stepped c v b k → RunOk c ls vs k
     step-ok k s =
         record {
           nodes = rw (s .levels) (ap (λ xs. xs ++ vs) (map-append (λ l. l .node) (b .levels) (level-of v (b .graph) ∷ [])) ∙ append-assoc (map (λ l. l .node) (b .levels)) (v ∷ []) vs ∙ ok .nodes);
@@ -84,9 +79,9 @@ module _ (c : BuildCall) (ls : List Link) (d : ℕ) (differ : Differ (c .order) 
         }
 
   -- a node that is not yet contracted is in the rest
-  later-in-rest : (xs vs : List ℕ) → xs ++ vs ≡ c .order → (u : ℕ) → Later (c .order) ls (length xs) u → In u vs
+  later-in-rest : (xs vs : List ℕ) → xs ++ vs ≡ c .order → (u : ℕ) → Later (c .order) (length xs) u → In u vs
   later-in-rest xs vs e u l =
-      let k : ℕ = rank-of (c .order) ls u - length xs in
+      let k : ℕ = rank-of (c .order) u - length xs in
       let total = simp length-append at (ap length e) in
       Memᴰ·cast
       (sym
@@ -95,7 +90,7 @@ module _ (c : BuildCall) (ls : List Link) (d : ℕ) (differ : Differ (c .order) 
       (getD-in vs k d (omega (arith, total, l .0, l .1)))
 
   -- One rank of the claim: v, the levels K at the end, and the claim for the rest.
-  module _ (v : ℕ) (vs : List ℕ) (b k : Building) (ok : RunOk (v ∷ vs) b) (s : Stepped c v b k) (K : List Level)
+  module _ (v : ℕ) (vs : List ℕ) (b k : Building) (ok : RunOk c ls (v ∷ vs) b) (s : Stepped c v b k) (K : List Level)
       (written : In (level-of v (b .graph)) K)
       (claim : (a e w : ℕ) → In a vs → In e vs → Path (Arcs (k .graph)) e a w → LevelUpDown K a e w) where
     level : LevelOk (c .order) ls (with-level (b .levels) v (b .graph)) (level-of v (b .graph))
@@ -106,7 +101,7 @@ module _ (c : BuildCall) (ls : List Link) (d : ℕ) (differ : Differ (c .order) 
     neighbour-in : (side : Side) (x : Arc) → In x (arcs-of side (level-of v (b .graph))) → In (neighbour-of side x) vs
     neighbour-in side x m =
         let xs = map (λ l. l .node) (b .levels) in
-        let long : length (xs ++ (v ∷ [])) ≡ suc (rank-of (c .order) ls v) =
+        let long : length (xs ++ (v ∷ [])) ≡ suc (rank-of (c .order) v) =
         length-append xs (v ∷ []) ∙ add-one (length xs) ∙ ap suc (length-map (b .levels) (λ l. l .node) ∙ sym (next-rank v vs b ok))
         in
         later-in-rest (xs ++ (v ∷ [])) vs (append-assoc xs (v ∷ []) vs ∙ ok .nodes) (neighbour-of side x)
@@ -164,8 +159,8 @@ module _ (c : BuildCall) (ls : List Link) (d : ℕ) (differ : Differ (c .order) 
         ]
 
   -- The claim: what the graph reaches among the rest goes up by forward edges and down by backward ones.
-  pub up-down : (vs : List ℕ) (b k : Building) → rank-steps c vs b ≡ went k → RunOk vs b →
-      ((l : Level) → In l (b .levels) → In l (k .levels)) × RunOk [] k ×
+  pub up-down : (vs : List ℕ) (b k : Building) → rank-steps c vs b ≡ went k → RunOk c ls vs b →
+      ((l : Level) → In l (b .levels) → In l (k .levels)) × RunOk c ls [] k ×
       ((a e w : ℕ) → In a vs → In e vs → Path (Arcs (b .graph)) e a w → LevelUpDown (k .levels) a e w)
   unfolding rank-steps
   up-down [] b k e ok =

@@ -29,8 +29,8 @@ use Rattle.walks.specs.Walks.{Linked}
 use Rattle.walks.proofs.Paths.{Lighter, lighter-path}
 use Rattle.search_laws.proofs.Graphs.{Arcs}
 use Rattle.build_laws.proofs.Contraction.{pool-held}
-use Rattle.build_laws.proofs.Levels.{rank-of, GraphOk}
-use Rattle.build_laws.proofs.Runs.{RunOk, LevelUpDown, up-down}
+use Rattle.build_laws.specs.Runs.{rank-of, GraphOk, RunOk}
+use Rattle.build_laws.proofs.Runs.{LevelUpDown, up-down}
 
 -- ascending links have no ends in common
 links-apart : (ls : List Link) → ascending ls ≡ true → Apart (map link-arc ls)
@@ -57,7 +57,7 @@ module _ (c : BuildCall) (ok : AcceptedBuild c) (small : (w : ℕ) → In w (c .
   links = linkList (c .links)
 
   -- every node is in the order
-  pub ranked : (u : ℕ) → u < c .nodes → rank-of (c .order) links u < length (c .order)
+  pub ranked : (u : ℕ) → u < c .nodes → rank-of (c .order) u < length (c .order)
   ranked u below =
       position-below (eqb u) (c .order) u
       (every-below (c .nodes) (c .order) (ok .order-distinct) (ok .order-below) (ok .order-length) u below)
@@ -90,12 +90,12 @@ module _ (c : BuildCall) (ok : AcceptedBuild c) (small : (w : ℕ) → In w (c .
   abbrev pub first-building : Building
   first-building = record { graph = map link-arc links; levels = [] }
 
-  pub first-run : RunOk c links 0 (distinct-decides (c .order) 0 .0 (ok .order-distinct)) (c .order) first-building
+  pub first-run : RunOk c links (c .order) first-building
   first-run = record { nodes = refl; levels = λ l m. absurd (List·Memᴰ·not-nil m); graph = links-ok }
 
   -- What a contraction that went leaves: levels, and every path over links up and down by them.
   pub record Contracted (b : Building) : Type 0 where
-    pub run : RunOk c links 0 (distinct-decides (c .order) 0 .0 (ok .order-distinct)) [] b
+    pub run : RunOk c links [] b
     pub fit : Fit c (b .levels)
     pub goes : (a e w : ℕ) → a < c .nodes → e < c .nodes → Path (Linked links) e a w → LevelUpDown (b .levels) a e w
 

@@ -18,7 +18,7 @@ use Rattle.rules.proofs.Ranges.{distinct-decides}
 use Rattle.rules.proofs.Ranks.{level-of, with-level}
 use Rattle.build_laws.proofs.Runs.{next-inside}
 use Rattle.build_laws.proofs.Enough.{level-short}
-use Rattle.lists.specs.Memory.{memory, first, ends-at, touches}
+use Rattle.lists.specs.Memory.{memory, ends-at, touches}
 use Rattle.lists.specs.Walks.{Walk}
 use Rattle.lists.proofs.Walks.{first-out}
 use Rattle.graph.specs.Stands.{Stands}

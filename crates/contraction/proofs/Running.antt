@@ -53,7 +53,7 @@ pub record SameLengths (t : Parts) (m : Lent) (t₀ : Parts) (m₀ : Lent) : Typ
 pub record Running (g : Given) (limit pool r : ℕ) (t : Parts) (m : Lent) (x : Work) (fwd bwd : ℕ) : Type 0 where
   pub ok : Accepted (call g limit pool)
   pub building : Building
-  pub run : Run (call g limit pool) ok (drop r (g .order)) building
+  pub run : Run (call g limit pool) (drop r (g .order)) building
   pub rank : length (building .levels) ≡ r
   pub at : At (call g limit pool) building t m x fwd bwd
   pub same : rank-steps (call g limit pool) (drop r (g .order)) building ≡ rank-steps (call g limit pool) (g .order) (first g)
@@ -80,7 +80,7 @@ module _ {g : Given} {limit pool r : ℕ} {t : Parts} {m : Lent} {x : Work} {fwd
     next : drop r (g .order) ≡ v ∷ drop (suc r) (g .order)
     next = drop-cons (g .order) r 0 h
 
-    next-run : Run c (y .ok) (v ∷ drop (suc r) (g .order)) (y .building)
+    next-run : Run c (v ∷ drop (suc r) (g .order)) (y .building)
     next-run = rw next at (y .run)
 
     pub stepping : Stepping g (y .building) (drop (suc r) (g .order)) limit pool r v t m x fwd bwd

@@ -9,9 +9,8 @@ use Rattle.rules.specs.Lists.{In}
 use Rattle.rules.specs.Columns.{Links, linkList, Hierarchy}
 use Rattle.rules.specs.Refusals.{BuildCall}
 use Rattle.rules.specs.Build.{Step, went, refused, Building, rank-step, rank-steps, contraction, graph-of}
-use Rattle.rules.proofs.Ranges.{distinct-decides}
 use Rattle.rules.specs.Accepted.{AcceptedBuild}
-use Rattle.build_laws.proofs.Runs.{RunOk}
+use Rattle.build_laws.specs.Runs.{RunOk}
 use Rattle.input_graph.specs.Given.{Between}
 use Rattle.lists.specs.Memory.{memory}
 use Rattle.graph.specs.Promises.{Spacious}
@@ -27,8 +26,8 @@ pub record Accepted (c : BuildCall) : Type 0 where
   pub weights : (w : ℕ) → In w (c .links .weights) → w ≤ maxLinkWeight
 
 -- the run so far, and that these nodes are left
-abbrev pub Run : (c : BuildCall) → Accepted c → List ℕ → Building → Type 0
-Run c ok vs b = RunOk c (linkList (c .links)) 0 (distinct-decides (c .order) 0 .0 (ok .build .order-distinct)) vs b
+abbrev pub Run : BuildCall → List ℕ → Building → Type 0
+Run c vs b = RunOk c (linkList (c .links)) vs b
 
 -- The definition came to a building, which the slices hold; or it met the same refusal.
 pub record Came (c : BuildCall) (s : Step Building) (t : Parts) (m : Lent) (w : Ranked) : Type 0 where
@@ -38,7 +37,7 @@ pub record Came (c : BuildCall) (s : Step Building) (t : Parts) (m : Lent) (w : 
 -- the node v of rank r is next
 pub record Stepping (g : Given) (b : Building) (vs : List ℕ) (limit pool r v : ℕ) (t : Parts) (m : Lent) (x : Work) (fwd bwd : ℕ) : Type 0 where
   pub ok : Accepted (call g limit pool)
-  pub run : Run (call g limit pool) ok (v ∷ vs) b
+  pub run : Run (call g limit pool) (v ∷ vs) b
   pub rank : length (b .levels) ≡ r
   pub at : At (call g limit pool) b t m x fwd bwd
 

@@ -1,11 +1,11 @@
 -- Tests over columns, and the first step, end by end.
-use mathlib.Core.Bool.{Bool, true, false, _&&_}
-use mathlib.Core.List.{List, [], _∷_}
-use mathlib.Core.Path.{_≡_, refl, sym, ap, _∙_}
-use Prim.Native.Nat.{ℕ, zero, suc, _+_, _<_, _≤_}
+use mathlib.Core.Bool.{Bool, true, false}
+use mathlib.Core.List.{List}
+use mathlib.Core.Path.{_≡_, sym, ap, _∙_}
+use Prim.Native.Nat.{ℕ, _+_, _<_, _≤_}
 use native.Mathlib.Numerals.{add-one}
 use native.Mathlib.Omega.{arith}
-use lib.Dec.{eqb, ltb, leb}
+use lib.Dec.{eqb}
 use lib.ListN.{length, getD, drop, drop-of-length-le}
 use lib.Seq.{drop-cons}
 use borrow.Author.Tests.{lt-ltb, le-ltb, le-leb, lt-leb, eq-eqb, ne-eqb}
@@ -14,7 +14,7 @@ use Rattle.rules.specs.Lists.{all}
 use Rattle.rules.specs.Refusals.{ends-fit, offset-fits}
 use Rattle.rules.specs.Query.{End, Best, zip-ends, counts, improve, coincide, coincide-all, first-step}
 use Rattle.halves.proofs.Entering.{ends-from, ends-length}
-use Rattle.ends.specs.Given.{end, given, Small, AllSmall, none}
+use Rattle.ends.specs.Given.{end, given, AllSmall}
 
 -- 21
 module _ (nodes offsets : List ℕ) where

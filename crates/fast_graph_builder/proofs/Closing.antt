@@ -2,15 +2,14 @@
 use mathlib.Core.Path.{_≡_, refl, sym, _∙_, ap, ap₂}
 use mathlib.Core.List.{List, [], _∷_, map}
 use Prim.Native.Nat.{ℕ}
-use lib.ListN.{length}
 use Rattle.rules.specs.Lists.{over}
 use Rattle.rules.specs.Columns.{Hierarchy, Table, Entry, Side, forward, backward, marked}
 use Rattle.rules.specs.Refusals.{BuildCall}
-use Rattle.rules.specs.Build.{Step, went, refused, Level, Raw, raws, Building, finish, finished, starts-of, laid, finish-contraction, Built, built, contraction}
+use Rattle.rules.specs.Build.{Step, went, Level, Raw, raws, Building, finish, finished, starts-of, laid, finish-contraction, built}
 use Rattle.build_laws.proofs.BuiltTables.{finish-keeps}
 use Rattle.search.specs.Searching.{Lent}
 use Rattle.node_contractor.specs.declared.Work.{Work}
-use Rattle.entries.specs.Laid.{part, four, laid-part, four-over, begun-of}
+use Rattle.entries.specs.Laid.{part, four, laid-part, four-over}
 use Rattle.marks.specs.Tables.{table-of, hierarchy}
 use Rattle.contraction.specs.declared.Ranked.{Ranked}
 use Rattle.contraction.specs.declared.Ranked.the-variants.{Went, Refused}

@@ -1,17 +1,17 @@
 -- Which calls are turned away, and what one that is let in gives.
 use mathlib.Core.Path.{_≡_, refl, sym, _∙_, ap}
-use mathlib.Core.Logic.{_⊎_, inl, inr}
-use mathlib.Core.Bool.{Bool, true, false, _||_}
+use mathlib.Core.Logic.{inl, inr}
+use mathlib.Core.Bool.{true, false, _||_}
 use mathlib.Core.List.{List, [], _∷_, _++_}
-use Prim.Native.Nat.{ℕ, zero, suc, _+_, _*_, _-_, _≤_, _<_}
+use Prim.Native.Nat.{ℕ, zero, suc, _+_, _*_, _-_, _≤_}
 use native.Mathlib.Omega.{arith}
 use native.Mathlib.Nat.{mul-le-mul-left}
 use native.Mathlib.Decide.{ℕ-discrete}
 use lib.Dec.{ltb}
 use lib.ListN.{length, replicate}
 use borrow.Author.Tests.{ltb-false}
-use Rattle.rules.specs.Numbers.{maxLinkWeight, invalid, noWeight}
-use Rattle.rules.specs.Lists.{In, filled}
+use Rattle.rules.specs.Numbers.{invalid, noWeight}
+use Rattle.rules.specs.Lists.{filled}
 use Rattle.rules.specs.Columns.{Links, Hierarchy, Table, marked-table, marked, equally-long, room}
 use Rattle.rules.specs.Refusals.{Row, row, first-met, short, build-scratch, BuildCall, graph-rows, order-rows, graph-refusal, table-short, lent-short, build-refusal}
 use Rattle.rules.specs.Build.{Step, went, refused, Building, finish-contraction, built, unless-refused, build, contraction}
@@ -20,7 +20,7 @@ use Rattle.rules.proofs.Cases.{neither}
 use Rattle.rules.proofs.Accepted.{accepted-build}
 use Rattle.rules.specs.Accepted.{AcceptedBuild}
 use Rattle.build_laws.proofs.Pools.{contraction-same}
-use Rattle.input_graph.specs.Given.{links, Between}
+use Rattle.input_graph.specs.Given.{links}
 use Rattle.input_graph.proofs.Accepted.{accepted-between}
 use Rattle.search.specs.Searching.{Lent, lent}
 use Rattle.marks.specs.Tables.{table-of, hierarchy}
@@ -30,7 +30,7 @@ use Rattle.contraction.specs.Ranks.{Given, given, call, parts, parts-of}
 use Rattle.contraction.specs.Promises.{Accepted, Came, Accepting}
 use Rattle.refusals.specs.Measures.{uneven-by, lent-short-by, order-test}
 use Rattle.refusals.proofs.Tests.{later, first-earlier}
-use Rattle.fast_graph_builder.specs.Promises.{answer, lengths, Inside, Closing, Passed}
+use Rattle.fast_graph_builder.specs.Promises.{answer, run, lengths, Inside, Closing, Passed}
 
 -- Rows 1 to 8, and then 9.
 eight : (n : ℕ) (l : Links) (order : List ℕ) (rest : List Row) → first-met (graph-rows n l ++ order-test n order) ≡ 0 →
@@ -69,7 +69,7 @@ module _ (c : BuildCall) where
     unfolding first-met
     let-in e = nine ∙ rw (e, first-met)
 
-  pub let-in-built : build-refusal c ≡ 0 → built c (contraction c) ≡ build c
+  pub let-in-built : build-refusal c ≡ 0 → run c ≡ build c
   unfolding build unless-refused
   let-in-built e = rw e
 
@@ -225,8 +225,7 @@ module _ (m : Lent) {n : ℕ} {ts hs ws order : List ℕ} {limit pool : ℕ} {h 
     built-alike (went b) = refl
     built-alike (refused k) = refl
 
-    pub as-built : built (call (given-with n (links ts hs ws) order h m) limit r) (contraction (call (given-with n (links ts hs ws) order h m) limit r)) ≡
-        built (call (given-with n (links ts hs ws) order h m) limit pool) (contraction (call (given-with n (links ts hs ws) order h m) limit pool))
+    pub as-built : run (call (given-with n (links ts hs ws) order h m) limit r) ≡ run (call (given-with n (links ts hs ws) order h m) limit pool)
     as-built =
         ap (built (call (given-with n (links ts hs ws) order h m) limit r)) same-contraction ∙
         built-alike (contraction (call (given-with n (links ts hs ws) order h m) limit pool))
@@ -268,10 +267,3 @@ module _ (m : Lent) {n : ℕ} {ts hs ws order : List ℕ} {limit pool : ℕ} {ra
       closing m p x {h′ = hierarchy ranks (table-of fs′ fb′ fn′ fw′ fi′ fo) (table-of bs′ bb′ bn′ bw′ bi′ bo)} came refl refl refl
       (table-alike (table-of fs fb fn fw fi fo) (table-of fs′ fb′ fn′ fw′ fi′ fo) a b c d e refl)
       (table-alike (table-of bs bb bn bw bi bo) (table-of bs′ bb′ bn′ bw′ bi′ bo) a′ b′ c′ d′ e′ refl)
-
-  pub checked-built : {number : ℕ} {h″ : Hierarchy} →
-      ((k : BuildCall) (s : Step Building) (m : Lent) → Closing k s m n order w (hierarchy ranks (table-of fs′ fb′ fn′ fw′ fi′ fo) (table-of bs′ bb′ bn′ bw′ bi′ bo)) →
-      answer number h″ ≡ built k s) →
-      answer number h″ ≡ built (call (given-with n (links ts hs ws) order (hierarchy ranks (table-of fs fb fn fw fi fo) (table-of bs bb bn bw bi bo)) m) limit pool)
-      (contraction (call (given-with n (links ts hs ws) order (hierarchy ranks (table-of fs fb fn fw fi fo) (table-of bs bb bn bw bi bo)) m) limit pool))
-  checked-built ensures = ensures _ _ _ closing-columns ∙ as-built m p x

@@ -6,18 +6,21 @@ use Prim.Native.Nat.{ℕ, _*_, _-_, _≤_}
 use lib.ListN.{length}
 use Rattle.rules.specs.Numbers.{maxLinkWeight}
 use Rattle.rules.specs.Lists.{In}
-use Rattle.rules.specs.Columns.{Hierarchy, Table, marked}
+use Rattle.rules.specs.Columns.{Hierarchy, marked}
 use Rattle.rules.specs.Refusals.{BuildCall, build-refusal}
-use Rattle.rules.specs.Build.{Step, Building, Built, contraction}
+use Rattle.rules.specs.Build.{Step, Building, Built, contraction, built}
 use Rattle.search.specs.Searching.{Lent}
-use Rattle.entries.specs.Laid.{Part, part, four}
 use Rattle.contraction.specs.declared.Ranked.{Ranked}
-use Rattle.contraction.specs.Ranks.{parts, parts-of}
+use Rattle.contraction.specs.Ranks.{parts-of}
 use Rattle.contraction.specs.Promises.{Accepted, Came}
 
 -- what a call answers, and what every lent place then holds
 abbrev pub answer : ℕ → Hierarchy → Built
 answer r h = record { number = r; hierarchy = h }
+
+-- rules 1 to 5 of a call
+abbrev pub run : BuildCall → Built
+run c = built c (contraction c)
 
 -- of scratch only the lengths matter
 abbrev pub lengths : (arcs weights nodes labels heap : List ℕ) → List ℕ

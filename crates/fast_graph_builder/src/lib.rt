@@ -2,12 +2,12 @@
 ghost use mathlib.Core.Path.{_≡_};
 ghost use Prim.Native.Nat.{_≤_};
 ghost use Rattle.rules.specs.Refusals.{BuildCall};
-ghost use Rattle.rules.specs.Build.{Step, Building, contraction, built, build};
+ghost use Rattle.rules.specs.Build.{Step, Building, built, build};
 ghost use Rattle.input_graph.specs.Given.{links};
 ghost use Rattle.search.specs.Searching.{Lent};
 ghost use Rattle.marks.specs.Tables.{table-of, hierarchy};
 ghost use Rattle.contraction.specs.Ranks.{given, call};
-ghost use Rattle.fast_graph_builder.specs.Promises.{answer, lengths, Inside, Closing, Passed};
+ghost use Rattle.fast_graph_builder.specs.Promises.{answer, run, lengths, Inside, Closing, Passed};
 use contraction::Ranked;
 
 // A pool above what n nodes can ever use is as good as that.
@@ -133,14 +133,10 @@ fn build_checked(
     ensures { λ r. ⌜ answer r (hierarchy (now (ranks .exit))
         (table-of (now («fwd_starts» .exit)) (now («fwd_bases» .exit)) (now («fwd_neighbours» .exit)) (now («fwd_weights» .exit)) (now («fwd_ins» .exit)) (now («fwd_outs» .exit)))
         (table-of (now («bwd_starts» .exit)) (now («bwd_bases» .exit)) (now («bwd_neighbours» .exit)) (now («bwd_weights» .exit)) (now («bwd_ins» .exit)) (now («bwd_outs» .exit)))) ≡
-        built (call (given n (links (now (tails .entry)) (now (heads .entry)) (now («link_weights» .entry))) (now (order .entry)) (hierarchy (now (ranks .entry))
+        run (call (given n (links (now (tails .entry)) (now (heads .entry)) (now («link_weights» .entry))) (now (order .entry)) (hierarchy (now (ranks .entry))
         (table-of (now («fwd_starts» .entry)) (now («fwd_bases» .entry)) (now («fwd_neighbours» .entry)) (now («fwd_weights» .entry)) (now («fwd_ins» .entry)) (now («fwd_outs» .entry)))
         (table-of (now («bwd_starts» .entry)) (now («bwd_bases» .entry)) (now («bwd_neighbours» .entry)) (now («bwd_weights» .entry)) (now («bwd_ins» .entry)) (now («bwd_outs» .entry))))
-        (lengths (now (arcs .entry)) (now (weights .entry)) (now (nodes .entry)) (now (labels .entry)) (now (heap .entry)))) limit pool)
-        (contraction (call (given n (links (now (tails .entry)) (now (heads .entry)) (now («link_weights» .entry))) (now (order .entry)) (hierarchy (now (ranks .entry))
-        (table-of (now («fwd_starts» .entry)) (now («fwd_bases» .entry)) (now («fwd_neighbours» .entry)) (now («fwd_weights» .entry)) (now («fwd_ins» .entry)) (now («fwd_outs» .entry)))
-        (table-of (now («bwd_starts» .entry)) (now («bwd_bases» .entry)) (now («bwd_neighbours» .entry)) (now («bwd_weights» .entry)) (now («bwd_ins» .entry)) (now («bwd_outs» .entry))))
-        (lengths (now (arcs .entry)) (now (weights .entry)) (now (nodes .entry)) (now (labels .entry)) (now (heap .entry)))) limit pool)) ⌝ }
+        (lengths (now (arcs .entry)) (now (weights .entry)) (now (nodes .entry)) (now (labels .entry)) (now (heap .entry)))) limit pool) ⌝ }
 {
     let inside = pool_inside(n, pool);
     let ranked = contraction::contraction(

@@ -6,12 +6,11 @@ use native.Mathlib.Omega.{arith}
 use native.Mathlib.Nat.{add-zero, zero-add}
 use lib.ListN.{length, getD, set, drop, length-append, length-map}
 use lib.Seq.{drop-at}
-use Rattle.rules.specs.Numbers.{invalid}
 use Rattle.rules.specs.Lists.{In, over, flat-map, distinct}
 use Rattle.rules.specs.Columns.{Table, Side, forward, backward, EquallyLong, room}
 use Rattle.rules.specs.Refusals.{BuildCall}
 use Rattle.rules.specs.TableRules.{tail-of, head-of}
-use Rattle.rules.specs.Build.{Level, Raw, arcs-of, level-raws, raws, Building, open-entry, finish, finished, running-sums, starts-of, ranks-of}
+use Rattle.rules.specs.Build.{Level, Raw, arcs-of, level-raws, raws, Building, open-entry, finished, running-sums, starts-of, ranks-of}
 use Rattle.rules.proofs.Pigeonhole.{every-below}
 use Rattle.rules.proofs.Ranges.{distinct-decides}
 use Rattle.rules.proofs.Prefixes.{over-at, over-length, over-next}

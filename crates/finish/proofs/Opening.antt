@@ -4,18 +4,17 @@ use mathlib.Core.Logic.{inl, inr}
 use mathlib.Core.List.{List, map}
 use Prim.Native.Nat.{ℕ, suc, _+_, _≤_, _<_}
 use native.Mathlib.Omega.{arith}
-use native.Mathlib.Numerals.{add-one}
 use lib.ListN.{length, getD, length-map}
 use Rattle.rules.specs.Numbers.{invalid}
 use Rattle.rules.specs.Lists.{In, over}
-use Rattle.rules.specs.Columns.{linkList, Side, forward, backward, table, Table, room}
+use Rattle.rules.specs.Columns.{Side, forward, backward, table, Table, room}
 use Rattle.rules.specs.Refusals.{BuildCall}
 use Rattle.rules.specs.TableRules.{tail-of, head-of}
 use Rattle.rules.specs.Graph.{Arc}
-use Rattle.rules.specs.Build.{Level, Raw, arcs-of, neighbour-of, raw, level-raws, raws, Building, place, open-entry, finish, starts-of, ranks-of, running-sums}
+use Rattle.rules.specs.Build.{Level, Raw, arcs-of, neighbour-of, raw, level-raws, raws, Building, place, open-entry, finish, starts-of, ranks-of}
 use Rattle.rules.proofs.Members.{in-map}
 use Rattle.rules.proofs.Prefixes.{prefix, prefix-most, sizes, flat-length, in-flat, over-at, over-length, sums-length}
-use Rattle.build_laws.proofs.Levels.{rank-of, Opened as FromCentre}
+use Rattle.build_laws.specs.Runs.{rank-of, Opened as FromCentre}
 use Rattle.build_laws.proofs.BuiltTables.{Kept, finish-keeps, finish-plain, finish-open, entry-ends, level-count, level-is, node-below, starts-at, ranks-length, ranks-at}
 use Rattle.finish.specs.declared.Numbers.{Numbers}
 use Rattle.finish.specs.Promises.{Seekable, Sought, Whole, Columns, raw-tail, raw-head, Opening, Opened}
@@ -69,7 +68,7 @@ module _ {c : BuildCall} {b : Building} {ranks fs fn bs bn : List ℕ} (k : Colu
   abbrev w : Whole c b
   w = k .whole
 
-  pub rank-read : (v : ℕ) → v < c .nodes → getD ranks v 0 ≡ rank-of (c .order) (linkList (c .links)) v
+  pub rank-read : (v : ℕ) → v < c .nodes → getD ranks v 0 ≡ rank-of (c .order) v
   rank-read v h =
       ap (λ l. getD l v 0) (k .ranks-are) ∙
       over-at (c .lent .ranks) (ranks-of (c .order) (c .nodes)) v 0 (rw (ranks-length (c .order) (c .nodes)) h) ∙
@@ -134,7 +133,7 @@ module _ {c : BuildCall} {b : Building} {s : Side} {x : Raw} {centre tail head :
     unfolding raw
     centre-arc = ap (λ r. r .centre) (from .4)
 
-    o : FromCentre (c .order) (linkList (c .links)) (b .levels) (rank-of (c .order) (linkList (c .links)) (l .node)) y
+    o : FromCentre (c .order) (b .levels) (rank-of (c .order) (l .node)) y
     o =
         elim (level-is c (w′ .ok) (w′ .weights) b (done w′) l (from .1) .arcs s y (from .3) .centred) [
           | inl none ↦ absurd (off (p .centre-is ∙ centre-arc ∙ none .0))
@@ -147,8 +146,8 @@ module _ {c : BuildCall} {b : Building} {s : Side} {x : Raw} {centre tail head :
     pub centre-below : centre < c .nodes
     centre-below = rw centre-node (node-below c (w′ .ok) (w′ .weights) b (done w′) (o .level) (o .written))
 
-    rank-here : getD ranks centre 0 ≡ rank-of (c .order) (linkList (c .links)) (o .level .node)
-    rank-here = rank-read (p .columns) centre centre-below ∙ ap (λ v. rank-of (c .order) (linkList (c .links)) v) centre-node
+    rank-here : getD ranks centre 0 ≡ rank-of (c .order) (o .level .node)
+    rank-here = rank-read (p .columns) centre centre-below ∙ ap (λ v. rank-of (c .order) v) centre-node
 
     pub rank-below : getD ranks centre 0 < c .nodes
     rank-below = let r = ranked w′ (o .level) (o .written) in omega (arith, rank-here, r .3, r .1)

@@ -1,9 +1,8 @@
 -- The code looks for an entry among those of its centre's rank: it finds the one that the definition finds among all.
-use mathlib.Core.Path.{_≡_, refl, sym, _∙_, ap, ap₂}
-use mathlib.Core.Logic.{inl, inr}
-use mathlib.Core.Bool.{_&&_, true}
-use mathlib.Core.List.{List, [], _++_, map}
-use Prim.Native.Nat.{ℕ, suc, _+_, _-_, _≤_, _<_, zero-le}
+use mathlib.Core.Path.{_≡_, refl, sym, _∙_, ap}
+use mathlib.Core.Bool.{_&&_}
+use mathlib.Core.List.{List, _++_, map}
+use Prim.Native.Nat.{ℕ, suc, _+_, _-_, _≤_, _<_}
 use native.Mathlib.Omega.{arith}
 use native.Mathlib.Numerals.{add-one}
 use native.Mathlib.Nat.{add-sub-of-le}
@@ -12,23 +11,21 @@ use lib.Dec.{eqb}
 use lib.ListN.{length, getD, set, drop, length-map}
 use lib.Seq.{getD-set-same, getD-set-other, getD-append-add, getD-drop, ext-getD}
 use borrow.Author.Tests.{eq-eqb}
-use Rattle.rules.specs.Numbers.{invalid}
 use Rattle.rules.specs.Lists.{In, over, position}
-use Rattle.rules.specs.Columns.{linkList, Side, forward, backward, table, begin}
+use Rattle.rules.specs.Columns.{Side, forward, backward, table, begin}
 use Rattle.rules.specs.Refusals.{BuildCall}
-use Rattle.rules.specs.TableRules.{tail-of, head-of}
 use Rattle.rules.specs.Graph.{Arc}
-use Rattle.rules.specs.Build.{went, Level, Raw, arcs-of, neighbour-of, raw, level-raws, raws, Building, place, open-entry, finish, starts-of, ranks-of, laid, finish-contraction, contraction}
+use Rattle.rules.specs.Build.{Level, arcs-of, neighbour-of, raw, level-raws, raws, Building, place, starts-of, ranks-of, laid, finish-contraction}
 use Rattle.rules.proofs.Decides.{both-and}
 use Rattle.rules.proofs.Ranges.{distinct-decides}
-use Rattle.rules.proofs.Members.{getD-in, in-getD, in-map}
+use Rattle.rules.proofs.Members.{getD-in, in-getD}
 use Rattle.rules.proofs.Positions.{position-first, position-below, position-is}
-use Rattle.rules.proofs.Prefixes.{prefix, locate, sizes, flat-length, in-flat, over-at, over-length, map-at}
-use Rattle.build_laws.proofs.Levels.{rank-of, Opened as FromCentre}
+use Rattle.rules.proofs.Prefixes.{prefix, locate, sizes, flat-length, over-at, over-length, map-at}
+use Rattle.build_laws.specs.Runs.{rank-of}
 use Rattle.build_laws.proofs.Starts.{Contracted, contraction-went}
-use Rattle.build_laws.proofs.BuiltTables.{no-arc, no-raw, no-level, Kept, finish-keeps, finish-plain, finish-open, entry-ends, level-count, level-is, level-at, rank-at, rank-is, starts-at, begin-is, entry-count, starts-next, raw-at, before-end, found, node-below, ranks-length, ranks-at}
+use Rattle.build_laws.proofs.BuiltTables.{no-raw, no-level, level-count, level-at, rank-at, starts-at, begin-is, starts-next, raw-at, before-end, found, ranks-length, ranks-at}
 use Rattle.finish.specs.declared.Numbers.{Numbers}
-use Rattle.finish.specs.Promises.{Seekable, Sought, Whole, Columns, Opening, Opened, Inverse}
+use Rattle.finish.specs.Promises.{Sought, Whole, Columns, Opened, Inverse}
 
 module _ {c : BuildCall} {b : Building} (w : Whole c b) where
   pub done : Contracted c (w .ok) (w .weights) b
@@ -38,7 +35,7 @@ module _ {c : BuildCall} {b : Building} (w : Whole c b) where
   L = b .levels
 
   -- the rank of a level's node is its place among the levels
-  pub ranked : (l : Level) → In l L → (i : ℕ) × (i < c .nodes) × (getD L i no-level ≡ l) × (rank-of (c .order) (linkList (c .links)) (l .node) ≡ i)
+  pub ranked : (l : Level) → In l L → (i : ℕ) × (i < c .nodes) × (getD L i no-level ≡ l) × (rank-of (c .order) (l .node) ≡ i)
   ranked l m =
       let k = in-getD l L no-level m in
       let short : k .0 < c .nodes = omega (arith, k .1, level-count c (w .ok) (w .weights) b done) in
@@ -46,7 +43,7 @@ module _ {c : BuildCall} {b : Building} (w : Whole c b) where
         k .0,
         short,
         k .2,
-        ap (λ v. rank-of (c .order) (linkList (c .links)) v) (sym (ap (λ x. x .node) (k .2)) ∙ at .0) ∙ rank-at c (w .ok) (w .weights) b done (k .0) short,
+        ap (λ v. rank-of (c .order) v) (sym (ap (λ x. x .node) (k .2)) ∙ at .0) ∙ rank-at c (w .ok) (w .weights) b done (k .0) short,
       )
 
   -- an entry in the range of a rank is of its node
@@ -99,7 +96,7 @@ module _ {c : BuildCall} {b : Building} (w : Whole c b) where
         map-at (λ r. r .neighbour) (raws s L) e no-raw 0 h
 
     -- what the code finds is what the definition finds
-    pub sought-place : (l : Level) → In l L → (y : Arc) → In y (arcs-of s l) → (r u e : ℕ) → r ≡ rank-of (c .order) (linkList (c .links)) (l .node) → u ≡ neighbour-of s y →
+    pub sought-place : (l : Level) → In l L → (y : Arc) → In y (arcs-of s l) → (r u e : ℕ) → r ≡ rank-of (c .order) (l .node) → u ≡ neighbour-of s y →
         Sought starts neighbours r u e → e ≡ place (raws s L) (l .node) u
     unfolding place raw
     sought-place l ml y my r u e rank nb x =

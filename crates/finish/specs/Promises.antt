@@ -1,11 +1,11 @@
 -- What the functions ask and promise.
-use mathlib.Core.List.{List, [], map}
+use mathlib.Core.List.{List, map}
 use mathlib.Core.Path.{_≡_}
 use Prim.Native.Nat.{ℕ, _+_, _≤_, _<_}
 use lib.ListN.{length, getD}
 use Rattle.rules.specs.Numbers.{maxLinkWeight, invalid}
 use Rattle.rules.specs.Lists.{In, over}
-use Rattle.rules.specs.Columns.{Table, Hierarchy, Side, forward, backward, table}
+use Rattle.rules.specs.Columns.{Side, forward, backward}
 use Rattle.rules.specs.TableRules.{tail-of, head-of}
 use Rattle.rules.specs.Refusals.{BuildCall}
 use Rattle.rules.specs.Build.{went, Raw, raws, Building, open-entry, finish, finished, starts-of, ranks-of, contraction}

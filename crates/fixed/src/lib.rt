@@ -69,3 +69,40 @@ pub fn wide_column(bytes: &[u8], at: usize, count: usize, out: &mut [u64]) -> us
     }
     at
 }
+
+// So many places of a column from one on, as far as there are.
+pub fn part(column: &[u32], at: usize, count: u32) -> &[u32] {
+    let end = column.len();
+    let count = count as usize;
+    if end <= at {
+        return &column[..0];
+    }
+    if end - at <= count {
+        return &column[at..];
+    }
+    &column[at..at + count]
+}
+
+pub fn wide_part(column: &[u64], at: usize, count: u32) -> &[u64] {
+    let end = column.len();
+    let count = count as usize;
+    if end <= at {
+        return &column[..0];
+    }
+    if end - at <= count {
+        return &column[at..];
+    }
+    &column[at..at + count]
+}
+
+pub fn byte_part(column: &[u8], at: usize, count: u32) -> &[u8] {
+    let end = column.len();
+    let count = count as usize;
+    if end <= at {
+        return &column[..0];
+    }
+    if end - at <= count {
+        return &column[at..];
+    }
+    &column[at..at + count]
+}

@@ -1,9 +1,8 @@
 -- A walk along the list of v on side s that has passed k of its places. It says nothing of the links, so that it lasts as long as
 -- the list is where it was.
-use mathlib.Core.Path.{_≡_, refl, sym, ap, _∙_}
-use mathlib.Core.List.{List, map}
-use Prim.Native.Nat.{ℕ, suc, _+_, _*_, _<_}
-use native.Mathlib.Omega.{arith}
+use mathlib.Core.Path.{_≡_, sym, ap, _∙_}
+use mathlib.Core.List.{List}
+use Prim.Native.Nat.{ℕ, suc, _+_, _<_}
 use lib.ListN.{drop}
 use Rattle.rules.specs.Numbers.{invalid}
 use Rattle.rules.specs.Lists.{keep}

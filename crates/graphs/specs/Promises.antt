@@ -14,7 +14,7 @@ use Rattle.graph.specs.declared.preparation_graph.Pool.{Pool}
 use Rattle.lists.specs.Memory.{memory, touches}
 use Rattle.graph.specs.Stands.{Stands}
 use Rattle.graphs.specs.declared.Changed.{Changed}
-use Rattle.graphs.specs.Changes.{changed, refusal, Columns, change-at, after, answered, write-rows}
+use Rattle.graphs.specs.Changes.{changed, refusal, Columns, after, answered, write-rows}
 
 -- the slices of a graph
 pub record Slices : Type 0 where

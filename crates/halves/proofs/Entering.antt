@@ -1,18 +1,17 @@
 -- Ends enter one after the other; and labels of which no stamp is of the query.
-use mathlib.Core.Bool.{true, false}
+use mathlib.Core.Bool.{false}
 use mathlib.Core.List.{List, [], _∷_}
 use mathlib.Core.Path.{_≡_, refl, sym, ap, _∙_, fun-ext}
-use Prim.Native.Nat.{ℕ, zero, suc, _+_, _*_, _-_, _^_, _<_, _≤_}
+use Prim.Native.Nat.{ℕ, zero, suc, _+_, _*_, _<_, _≤_}
 use native.Mathlib.Decide.{decLt, ℕ-discrete}
 use native.Mathlib.Numerals.{add-one}
 use native.Mathlib.Omega.{arith}
-use lib.Dec.{ltb}
-use lib.ListN.{length, getD, drop, set, length-set, drop-of-length-le}
+use lib.ListN.{length, getD, drop, set, drop-of-length-le}
 use lib.Seq.{getD-set-same, getD-set-other}
 use borrow.Author.Tests.{lt-ltb, le-ltb}
 use Rattle.rules.specs.Numbers.{invalid}
-use Rattle.rules.specs.Query.{End, Label, no-label, Half, untouched, zip-ends, offer, enter}
-use Rattle.heap.specs.Items.{items, sorted}
+use Rattle.rules.specs.Query.{End, no-label, untouched, zip-ends, enter}
+use Rattle.heap.specs.Items.{items}
 use Rattle.heap.specs.Shape.{Ordered}
 use Rattle.heap.proofs.Laws.{empty-ordered, empty-sorted}
 use Rattle.halves.specs.Labels.{label, stamp, seen, label-at, settled-at, half}

@@ -1,13 +1,13 @@
 -- Offers along a stretch of entries, one after the other.
 use mathlib.Core.List.{List, [], _∷_}
 use mathlib.Core.Path.{_≡_, refl, sym, ap, _∙_}
-use Prim.Native.Nat.{ℕ, zero, suc, _+_, _*_, _-_, _^_, _<_, _≤_}
+use Prim.Native.Nat.{ℕ, suc, _+_, _-_, _<_, _≤_}
 use native.Mathlib.Numerals.{add-one}
 use native.Mathlib.Omega.{arith}
 use lib.ListN.{length, getD}
 use Rattle.rules.specs.Lists.{range, count-from}
-use Rattle.rules.specs.Columns.{Table, entry}
-use Rattle.rules.specs.Query.{Label, Half, offer, relax}
+use Rattle.rules.specs.Columns.{Table}
+use Rattle.rules.specs.Query.{offer, relax}
 use Rattle.heap.specs.Items.{pair, items}
 use Rattle.heap.specs.Shape.{Ordered}
 use Rattle.halves.specs.Labels.{label, half}

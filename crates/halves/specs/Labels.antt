@@ -1,9 +1,9 @@
 -- What the labels mean: weight, parent and entry of v at 4 * v and after, and its stamp at 4 * v + 3. A stamp below the base is of an
 -- earlier query.
-use mathlib.Core.Bool.{Bool, true, false, _&&_}
+use mathlib.Core.Bool.{Bool, true, false}
 use mathlib.Core.List.{List}
 use Prim.Native.Nat.{ℕ, _+_, _*_}
-use lib.Dec.{ltb, leb}
+use lib.Dec.{ltb}
 use lib.ListN.{getD, set}
 use Rattle.rules.specs.Query.{Label, no-label, Half}
 use Rattle.heap.specs.Items.{items, sorted}

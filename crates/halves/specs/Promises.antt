@@ -5,7 +5,7 @@ use Prim.Native.Nat.{ℕ, _+_, _*_, _-_, _^_, _<_, _≤_}
 use lib.ListN.{length, getD}
 use Rattle.rules.specs.Lists.{range}
 use Rattle.rules.specs.Columns.{Table, entry}
-use Rattle.rules.specs.Query.{Label, Half, untouched, zip-ends, offer, enter, relax}
+use Rattle.rules.specs.Query.{Label, zip-ends, offer, enter, relax}
 use Rattle.heap.specs.Items.{pair, items}
 use Rattle.heap.specs.Shape.{Ordered}
 use Rattle.halves.specs.Labels.{stamp, half}

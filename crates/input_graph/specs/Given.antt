@@ -5,7 +5,7 @@ use mathlib.Core.Path.{_≡_}
 use Prim.Native.Nat.{ℕ, _<_}
 use lib.Dec.{eqb}
 use lib.ListN.{length, getD}
-use Rattle.rules.specs.Columns.{Link, Links, linkList}
+use Rattle.rules.specs.Columns.{Link, Links}
 use Rattle.rules.specs.Refusals.{names-none-above, loop}
 
 abbrev pub link : ℕ → ℕ → ℕ → Link

@@ -1,26 +1,25 @@
 -- From cleared labels and the ends to the first round.
 use mathlib.Core.List.{List, [], _∷_, List·Memᴰ·head, List·Memᴰ·tail}
-use mathlib.Core.Logic.{inl, inr}
 use mathlib.Core.Path.{_≡_, refl, sym, ap, _∙_}
-use Prim.Native.Nat.{ℕ, zero, suc, _+_, _*_, _^_, _<_, _≤_}
+use Prim.Native.Nat.{ℕ, zero, suc, _+_, _*_, _<_, _≤_}
 use native.Mathlib.Omega.{arith}
 use lib.ListN.{length, getD, drop}
-use Rattle.rules.specs.Numbers.{maxEnds, maxWeight, noWeight}
+use Rattle.rules.specs.Numbers.{maxEnds}
 use Rattle.rules.specs.Lists.{In}
-use Rattle.rules.specs.Columns.{Hierarchy, forward, backward, opposite, table, Ends, begin}
+use Rattle.rules.specs.Columns.{Hierarchy, forward, backward, opposite, table, begin}
 use Rattle.rules.specs.TableRules.{used}
 use Rattle.rules.specs.Refusals.{QueryCall}
-use Rattle.rules.specs.Query.{End, Best, Half, untouched, zip-ends, endList, enter, first-step, Halves, rounds, query-fuel, entered, searched}
-use Rattle.query_laws.proofs.State.{EndRules, counting-fits}
-use Rattle.query_laws.proofs.Turns.{Both, both-loads}
-use Rattle.query_laws.proofs.Accepted.{EndsRules, Accepted, entered-both}
-use Rattle.halves.specs.Labels.{stamp, half}
+use Rattle.rules.specs.Query.{Best, untouched, zip-ends, endList, enter, first-step, rounds, query-fuel, entered, searched}
+use Rattle.query_laws.specs.Accepted.{EndRules, EndsRules, Accepted}
+use Rattle.query_laws.proofs.State.{counting-fits}
+use Rattle.query_laws.specs.Sound.{Both}
+use Rattle.query_laws.proofs.Accepted.{entered-both}
+use Rattle.halves.specs.Labels.{half}
 use Rattle.halves.specs.Promises.{Entering, Enters, Clears}
 use Rattle.halves.proofs.Entering.{ends-from, half-untouched}
-use Rattle.turns.specs.Turning.{View}
-use Rattle.rounds.specs.Rounds.{halves, Rounding, Running, Ran}
-use Rattle.ends.specs.Given.{end, given, Small, AllSmall, none}
-use Rattle.path_calculator.specs.Searching.{call, Searching, Searched}
+use Rattle.rounds.specs.Rounds.{halves, Running, Ran}
+use Rattle.ends.specs.Given.{end, given, AllSmall, none}
+use Rattle.path_calculator.specs.Searching.{call, Searching}
 
 in-drop : {A : Type 0} (k : ℕ) (l : List A) (x : A) → In x (drop k l) → In x l
 in-drop zero l x m = m

@@ -8,7 +8,7 @@ use Rattle.rules.specs.Columns.{Hierarchy, forward, backward, table}
 use Rattle.rules.specs.TableRules.{used}
 use Rattle.rules.specs.Refusals.{QueryCall}
 use Rattle.rules.specs.Query.{Best, searched}
-use Rattle.query_laws.proofs.Accepted.{Accepted}
+use Rattle.query_laws.specs.Accepted.{Accepted}
 use Rattle.rounds.specs.Rounds.{halves}
 use Rattle.ends.specs.Given.{given}
 

@@ -2,27 +2,26 @@
 use mathlib.Core.Bool.{true, false}
 use mathlib.Core.List.{List, [], _∷_, _++_, append-nil, append-assoc, reverse, reverse-append}
 use mathlib.Core.Path.{_≡_, refl, sym, ap, _∙_}
-use Prim.Native.Nat.{ℕ, zero, suc, _+_, _*_, _-_, _^_, _<_, _≤_}
+use Prim.Native.Nat.{ℕ, zero, suc, _+_, _-_, _^_, _<_, _≤_}
 use native.Mathlib.Nat.{zero-add}
 use native.Mathlib.Omega.{arith}
 use lib.Dec.{eqb}
-use lib.ListN.{length}
 use borrow.Author.Tests.{eq-eqb, ne-eqb}
 use Rattle.rules.specs.Numbers.{invalid}
-use Rattle.rules.specs.Lists.{flat-map}
-use Rattle.rules.specs.Columns.{Hierarchy, Side, forward, backward, table, rank}
-use Rattle.rules.specs.TableRules.{used, TableRules}
+use Rattle.rules.specs.Lists.{written, flat-map}
+use Rattle.rules.specs.Columns.{Hierarchy, Side, forward, backward, rank}
+use Rattle.rules.specs.TableRules.{TableRules}
 use Rattle.rules.specs.Unpack.{unpacked}
-use Rattle.rules.specs.Query.{End, Label, Half, climb, root}
+use Rattle.rules.specs.Query.{Label, Half, climb, root}
 use Rattle.rules.proofs.Prefixes.{flat-map-append}
 use Rattle.walks.proofs.Places.{place-used}
-use Rattle.query_laws.proofs.State.{Along, Sound}
+use Rattle.query_laws.specs.Sound.{Along}
 use Rattle.query_laws.proofs.Chains.{climb-end, climb-on, root-end, root-on, came-along, parent-lower, climb-enough, root-enough}
-use Rattle.unpacking.specs.Written.{written, Used, Put}
+use Rattle.unpacking.specs.Written.{Used, Put}
 use Rattle.unpacking.proofs.Opened.{first-within, both-within, put-both}
 use Rattle.halves.specs.Labels.{seen, half}
 use Rattle.halves.proofs.Labels.{label-in}
-use Rattle.paths.specs.Climbs.{half-walk, Labelled, Climbing, Climbed}
+use Rattle.paths.specs.Climbs.{half-walk, Labelled, Climbing}
 
 module _ (n : ℕ) (h : Hierarchy) (s : Side) (labels : List ℕ) (base v : ℕ) (rules : TableRules n h) (below : v < n) (l : Labelled n h s labels base) where
   abbrev x : Half

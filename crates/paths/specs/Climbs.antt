@@ -7,7 +7,7 @@ use Rattle.rules.specs.Columns.{Hierarchy, Side, forward, backward}
 use Rattle.rules.specs.TableRules.{TableRules}
 use Rattle.rules.specs.Unpack.{unpacked}
 use Rattle.rules.specs.Query.{End, Half, climb, root}
-use Rattle.query_laws.proofs.State.{Sound}
+use Rattle.query_laws.specs.Sound.{Sound}
 use Rattle.unpacking.specs.Written.{Put}
 use Rattle.halves.specs.Labels.{half}
 

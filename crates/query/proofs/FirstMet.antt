@@ -1,15 +1,15 @@
 -- Which row is met first.
-use mathlib.Core.Bool.{Bool, true, false, not, _&&_, _||_}
+use mathlib.Core.Bool.{Bool, true, false, _&&_, _||_}
 use mathlib.Core.List.{List, [], _∷_}
-use mathlib.Core.Path.{_≡_, refl, sym, ap, _∙_}
-use Prim.Native.Nat.{ℕ, suc, _+_, _*_, _^_, _<_, _≤_}
+use mathlib.Core.Path.{_≡_, refl, sym, _∙_}
+use Prim.Native.Nat.{ℕ, _+_, _*_, _<_, _≤_}
 use native.Mathlib.Omega.{arith}
 use lib.Dec.{ltb}
 use lib.ListN.{length, getD}
-use borrow.Author.Tests.{lt-ltb, le-ltb, not-false}
+use borrow.Author.Tests.{lt-ltb, le-ltb}
 use Rattle.rules.specs.Numbers.{maxEnds}
 use Rattle.rules.specs.Lists.{all}
-use Rattle.rules.specs.Columns.{Hierarchy, Ends, forward, backward, table, begin}
+use Rattle.rules.specs.Columns.{Hierarchy, Ends, forward, backward, begin}
 use Rattle.rules.specs.TableRules.{used, TableRules, table-test}
 use Rattle.rules.specs.Refusals.{QueryCall, first-met, short, ends-fit, offset-fits, check-rows, end-rows, query-scratch, check-refusal, query-refusal}
 use Rattle.rules.proofs.Cases.{on-test}

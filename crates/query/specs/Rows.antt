@@ -1,6 +1,6 @@
 -- Rows 21 to 24 of a query, in two parts: the ends, and what is lent.
 use mathlib.Core.Bool.{Bool, not, _&&_, _||_}
-use mathlib.Core.List.{List, [], _∷_}
+use mathlib.Core.List.{[], _∷_}
 use Prim.Native.Nat.{ℕ, _+_, _*_}
 use lib.Dec.{ltb}
 use Rattle.rules.specs.Numbers.{maxEnds}

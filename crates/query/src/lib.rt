@@ -1,12 +1,21 @@
-// The refusals of a query: rows 20 to 24, lowest number first, before any work.
+// The query: refusals, the search, and the walk handed back.
+//
+// Columns: f of the forward table, b of the backward one; s starts, b bases, m neighbours, w weights, i and o the two numbers; l labels and
+// h heap of either side.
 ghost use mathlib.Core.List.{[], _∷_};
 ghost use mathlib.Core.Path.{_≡_};
 ghost use Prim.Native.Nat.{_^_, _<_, _≤_};
+ghost use lib.ListN.{length};
 ghost use Rattle.rules.specs.Refusals.{query-refusal};
+ghost use Rattle.rules.specs.Query.{query};
+ghost use Rattle.query_laws.specs.Accepted.{Accepted};
 ghost use Rattle.tables.specs.Lent.{columns, lent};
 ghost use Rattle.ends.specs.Given.{given};
 ghost use Rattle.path_calculator.specs.Searching.{call};
 ghost use Rattle.query.specs.Rows.{ends-refusal, room-short};
+ghost use Rattle.query.specs.Answers.{answer, Tells, Hands, found, Handing, HandedBack};
+use rules::INVALID;
+use rules::WEIGHT_MAX;
 
 // The first of rows 21 to 23 that is met, or 0.
 fn ends_refusal(
@@ -68,8 +77,7 @@ fn lent_short(
     bh < 2 * (b + rules::MAX_ENDS)
 }
 
-// The number of the first row that is met, or 0. Of scratch only the lengths matter. Columns: f of the forward table, b of the backward
-// one; s starts, b bases, m neighbours, w weights, i and o the two numbers.
+// The number of the first row that is met, or 0. Of scratch only the lengths matter.
 pub fn refusal(
     n: usize,
     ranks: &[u32],
@@ -117,4 +125,387 @@ pub fn refusal(
         return 24;
     }
     0
+}
+
+// A query's number and weight, and how many places of the path are the walk.
+pub struct Answer {
+    pub number: u32,
+    pub weight: u64,
+    pub count: usize,
+}
+
+// The walk through v, counted before anything is written: refusal 25 leaves the path alone.
+fn hand_back(
+    n: usize,
+    ranks: &[u32],
+    fs: &[u32],
+    fb: &[u32],
+    fm: &[u32],
+    fw: &[u64],
+    fi: &[u32],
+    fo: &[u32],
+    bs: &[u32],
+    bb: &[u32],
+    bm: &[u32],
+    bw: &[u64],
+    bi: &[u32],
+    bo: &[u32],
+    fl: &[u64],
+    bl: &[u64],
+    v: usize,
+    sum: u64,
+    path: &mut [u32],
+) -> Answer
+    requires { ⌜ Handing n (lent (now ranks) (columns (now fs) (now fb) (now fm) (now fw) (now fi) (now fo)) (columns (now bs) (now bb) (now bm) (now bw) (now bi) (now bo))) (now fl) (now bl) v ⌝ }
+    ensures { λ r. ⌜ HandedBack n (lent (now (ranks .entry)) (columns (now (fs .entry)) (now (fb .entry)) (now (fm .entry)) (now (fw .entry)) (now (fi .entry)) (now (fo .entry))) (columns (now (bs .entry)) (now (bb .entry)) (now (bm .entry)) (now (bw .entry)) (now (bi .entry)) (now (bo .entry)))) (now (fl .entry)) (now (bl .entry)) v sum r (now (path .entry)) (now (path .exit)) ⌝ }
+{
+    let room = path.len();
+    let count = paths::extract_nodes(
+        n,
+        ranks,
+        fs,
+        fb,
+        fm,
+        fw,
+        fi,
+        fo,
+        bs,
+        bb,
+        bm,
+        bw,
+        bi,
+        bo,
+        fl,
+        bl,
+        1,
+        v,
+        &mut path[..0],
+        room + 1,
+    );
+    if room < count {
+        return Answer {
+            number: 25,
+            weight: WEIGHT_MAX,
+            count: 0,
+        };
+    }
+    let written = paths::extract_nodes(
+        n,
+        ranks,
+        fs,
+        fb,
+        fm,
+        fw,
+        fi,
+        fo,
+        bs,
+        bb,
+        bm,
+        bw,
+        bi,
+        bo,
+        fl,
+        bl,
+        1,
+        v,
+        path,
+        count,
+    );
+    Answer {
+        number: 0,
+        weight: sum,
+        count: written,
+    }
+}
+
+// The route of a query that rows 20 to 24 let pass.
+fn route(
+    n: usize,
+    ranks: &[u32],
+    fs: &[u32],
+    fb: &[u32],
+    fm: &[u32],
+    fw: &[u64],
+    fi: &[u32],
+    fo: &[u32],
+    bs: &[u32],
+    bb: &[u32],
+    bm: &[u32],
+    bw: &[u64],
+    bi: &[u32],
+    bo: &[u32],
+    sources: &[u32],
+    source_offsets: &[u64],
+    targets: &[u32],
+    target_offsets: &[u64],
+    path: &mut [u32],
+    fl: &mut [u64],
+    bl: &mut [u64],
+    fh: &mut [u64],
+    bh: &mut [u64],
+) -> Answer
+    requires { ⌜ Accepted (call n (lent (now ranks) (columns (now fs) (now fb) (now fm) (now fw) (now fi) (now fo)) (columns (now bs) (now bb) (now bm) (now bw) (now bi) (now bo))) (now sources) (now «source_offsets») (now targets) (now «target_offsets») (now path) (length (now fl) ∷ length (now bl) ∷ length (now fh) ∷ length (now bh) ∷ [])) ⌝ }
+    ensures { λ r. ⌜ Tells (found (call n (lent (now (ranks .entry)) (columns (now (fs .entry)) (now (fb .entry)) (now (fm .entry)) (now (fw .entry)) (now (fi .entry)) (now (fo .entry))) (columns (now (bs .entry)) (now (bb .entry)) (now (bm .entry)) (now (bw .entry)) (now (bi .entry)) (now (bo .entry)))) (now (sources .entry)) (now («source_offsets» .entry)) (now (targets .entry)) (now («target_offsets» .entry)) (now (path .entry)) (length (now (fl .entry)) ∷ length (now (bl .entry)) ∷ length (now (fh .entry)) ∷ length (now (bh .entry)) ∷ []))) r (now (path .exit)) ⌝ }
+{
+    let best = path_calculator::search(
+        n,
+        ranks,
+        fs,
+        fb,
+        fm,
+        fw,
+        fi,
+        fo,
+        bs,
+        bb,
+        bm,
+        bw,
+        bi,
+        bo,
+        sources,
+        source_offsets,
+        targets,
+        target_offsets,
+        fl,
+        bl,
+        fh,
+        bh,
+    );
+    if best.node == INVALID {
+        return Answer {
+            number: 0,
+            weight: WEIGHT_MAX,
+            count: 0,
+        };
+    }
+    hand_back(
+        n,
+        ranks,
+        fs,
+        fb,
+        fm,
+        fw,
+        fi,
+        fo,
+        bs,
+        bb,
+        bm,
+        bw,
+        bi,
+        bo,
+        fl,
+        bl,
+        best.node as usize,
+        best.sum,
+        path,
+    )
+}
+
+// The whole query: the refusals, then the route.
+fn calc_path(
+    n: usize,
+    ranks: &[u32],
+    fs: &[u32],
+    fb: &[u32],
+    fm: &[u32],
+    fw: &[u64],
+    fi: &[u32],
+    fo: &[u32],
+    bs: &[u32],
+    bb: &[u32],
+    bm: &[u32],
+    bw: &[u64],
+    bi: &[u32],
+    bo: &[u32],
+    sources: &[u32],
+    source_offsets: &[u64],
+    targets: &[u32],
+    target_offsets: &[u64],
+    path: &mut [u32],
+    fl: &mut [u64],
+    bl: &mut [u64],
+    fh: &mut [u64],
+    bh: &mut [u64],
+) -> Answer
+    ensures { λ r. ⌜ Tells (query (call n (lent (now (ranks .entry)) (columns (now (fs .entry)) (now (fb .entry)) (now (fm .entry)) (now (fw .entry)) (now (fi .entry)) (now (fo .entry))) (columns (now (bs .entry)) (now (bb .entry)) (now (bm .entry)) (now (bw .entry)) (now (bi .entry)) (now (bo .entry)))) (now (sources .entry)) (now («source_offsets» .entry)) (now (targets .entry)) (now («target_offsets» .entry)) (now (path .entry)) (length (now (fl .entry)) ∷ length (now (bl .entry)) ∷ length (now (fh .entry)) ∷ length (now (bh .entry)) ∷ []))) r (now (path .exit)) ⌝ }
+{
+    let number = refusal(
+        n,
+        ranks,
+        fs,
+        fb,
+        fm,
+        fw,
+        fi,
+        fo,
+        bs,
+        bb,
+        bm,
+        bw,
+        bi,
+        bo,
+        sources,
+        source_offsets,
+        targets,
+        target_offsets,
+        path,
+        fl.len(),
+        bl.len(),
+        fh.len(),
+        bh.len(),
+    );
+    if number != 0 {
+        return Answer {
+            number,
+            weight: WEIGHT_MAX,
+            count: 0,
+        };
+    }
+    route(
+        n,
+        ranks,
+        fs,
+        fb,
+        fm,
+        fw,
+        fi,
+        fo,
+        bs,
+        bb,
+        bm,
+        bw,
+        bi,
+        bo,
+        sources,
+        source_offsets,
+        targets,
+        target_offsets,
+        path,
+        fl,
+        bl,
+        fh,
+        bh,
+    )
+}
+
+// The query, its walk left in the front of the path; returns how many places that is. Nothing is asked of the caller.
+#[no_mangle]
+pub extern "C" fn fill_path(
+    n: usize,
+    ranks: &[u32],
+    fs: &[u32],
+    fb: &[u32],
+    fm: &[u32],
+    fw: &[u64],
+    fi: &[u32],
+    fo: &[u32],
+    bs: &[u32],
+    bb: &[u32],
+    bm: &[u32],
+    bw: &[u64],
+    bi: &[u32],
+    bo: &[u32],
+    sources: &[u32],
+    source_offsets: &[u64],
+    targets: &[u32],
+    target_offsets: &[u64],
+    path: &mut [u32],
+    number: &mut u32,
+    weight: &mut u64,
+    fl: &mut [u64],
+    bl: &mut [u64],
+    fh: &mut [u64],
+    bh: &mut [u64],
+) -> usize
+    ensures { λ r. ⌜ Tells (query (call n (lent (now (ranks .entry)) (columns (now (fs .entry)) (now (fb .entry)) (now (fm .entry)) (now (fw .entry)) (now (fi .entry)) (now (fo .entry))) (columns (now (bs .entry)) (now (bb .entry)) (now (bm .entry)) (now (bw .entry)) (now (bi .entry)) (now (bo .entry)))) (now (sources .entry)) (now («source_offsets» .entry)) (now (targets .entry)) (now («target_offsets» .entry)) (now (path .entry)) (length (now (fl .entry)) ∷ length (now (bl .entry)) ∷ length (now (fh .entry)) ∷ length (now (bh .entry)) ∷ []))) (answer (now (number .exit)) (now (weight .exit)) r) (now (path .exit)) ⌝ }
+{
+    let answer = calc_path(
+        n,
+        ranks,
+        fs,
+        fb,
+        fm,
+        fw,
+        fi,
+        fo,
+        bs,
+        bb,
+        bm,
+        bw,
+        bi,
+        bo,
+        sources,
+        source_offsets,
+        targets,
+        target_offsets,
+        path,
+        fl,
+        bl,
+        fh,
+        bh,
+    );
+    *number = answer.number;
+    *weight = answer.weight;
+    answer.count
+}
+
+// The same in the paper's form: the filled front part of the path, exactly the walk or empty, number and weight in lent numbers.
+// A contract cannot speak of what lies beyond a returned part; `fill_path` says what every place of the path holds.
+pub fn calc_path_multiple_sources_and_targets<'a>(
+    n: usize,
+    ranks: &[u32],
+    fs: &[u32],
+    fb: &[u32],
+    fm: &[u32],
+    fw: &[u64],
+    fi: &[u32],
+    fo: &[u32],
+    bs: &[u32],
+    bb: &[u32],
+    bm: &[u32],
+    bw: &[u64],
+    bi: &[u32],
+    bo: &[u32],
+    sources: &[u32],
+    source_offsets: &[u64],
+    targets: &[u32],
+    target_offsets: &[u64],
+    path: &'a mut [u32],
+    number: &mut u32,
+    weight: &mut u64,
+    fl: &mut [u64],
+    bl: &mut [u64],
+    fh: &mut [u64],
+    bh: &mut [u64],
+) -> &'a mut [u32]
+    ensures { λ r. ⌜ Hands (query (call n (lent (now (ranks .entry)) (columns (now (fs .entry)) (now (fb .entry)) (now (fm .entry)) (now (fw .entry)) (now (fi .entry)) (now (fo .entry))) (columns (now (bs .entry)) (now (bb .entry)) (now (bm .entry)) (now (bw .entry)) (now (bi .entry)) (now (bo .entry)))) (now (sources .entry)) (now («source_offsets» .entry)) (now (targets .entry)) (now («target_offsets» .entry)) (now (path .entry)) (length (now (fl .entry)) ∷ length (now (bl .entry)) ∷ length (now (fh .entry)) ∷ length (now (bh .entry)) ∷ []))) (now r) (now (number .exit)) (now (weight .exit)) ⌝ }
+{
+    let count = fill_path(
+        n,
+        ranks,
+        fs,
+        fb,
+        fm,
+        fw,
+        fi,
+        fo,
+        bs,
+        bb,
+        bm,
+        bw,
+        bi,
+        bo,
+        sources,
+        source_offsets,
+        targets,
+        target_offsets,
+        path,
+        number,
+        weight,
+        fl,
+        bl,
+        fh,
+        bh,
+    );
+    &mut path[..count]
 }

@@ -1,7 +1,7 @@
 -- What an accepted query brings; that its search starts sound, stays so, and ends with both heaps empty.
 use mathlib.Core.Path.{_≡_, refl, ap}
 use mathlib.Core.Logic.{_⊎_, inl, inr}
-use mathlib.Core.Bool.{true, false, _&&_}
+use mathlib.Core.Bool.{true, _&&_}
 use mathlib.Core.List.{List, [], _∷_, List·Memᴰ·head, List·Memᴰ·tail, List·Memᴰ·cases-cons, List·Memᴰ·not-nil}
 use Prim.Native.Nat.{ℕ, _+_, _≤_, _<_}
 use native.Mathlib.Omega.{arith}
@@ -11,7 +11,6 @@ use borrow.Author.Tests.{ltb-true, ltb-false, leb-true, eqb-true, not-false}
 use Rattle.rules.specs.Numbers.{maxEnds, maxWeight, noWeight}
 use Rattle.rules.specs.Lists.{In, all}
 use Rattle.rules.specs.Columns.{forward, backward, table, Ends}
-use Rattle.rules.specs.TableRules.{TableRules}
 use Rattle.rules.specs.Refusals.{QueryCall, ends-fit, offset-fits, check-rows, end-rows, query-refusal, short, query-scratch}
 use Rattle.rules.specs.Query.{End, zip-ends, endList, counts, Best, coincide, coincide-all, first-step, Half, untouched, enter, query-fuel, entered, searched}
 use Rattle.rules.proofs.Decides.{and-both, or-either}
@@ -19,9 +18,10 @@ use Rattle.rules.proofs.TablesDecided.{tables-decided}
 use Rattle.rules.proofs.Cases.{on-test, not-both, neither}
 use Rattle.rules.proofs.Members.{all-each}
 use Rattle.rules.proofs.Rows.{not-met}
-use Rattle.query_laws.proofs.Offers.{weight-at}
-use Rattle.query_laws.proofs.State.{EndRules, Sound, first-sound, enter-unsettled}
-use Rattle.query_laws.proofs.Turns.{Met, no-best, improve-cases, Both, rounds-keep, rounds-finish}
+use Rattle.query_laws.specs.Accepted.{EndsRules, Accepted}
+use Rattle.query_laws.specs.Sound.{weight-at, listed, Sound, Met, no-best, Both}
+use Rattle.query_laws.proofs.State.{first-sound, enter-unsettled}
+use Rattle.query_laws.proofs.Turns.{improve-cases, rounds-keep, rounds-finish}
 
 zipped-in : (vs os : List ℕ) (e : End) → In e (zip-ends vs os) → In (e .node) vs × In (e .offset) os
 unfolding zip-ends
@@ -38,14 +38,6 @@ unfolding zip-ends
 zipped-length [] os = omega arith
 zipped-length (v ∷ vs) [] = omega arith
 zipped-length (v ∷ vs) (o ∷ os) = omega (arith, zipped-length vs os)
-
--- The ends of one side, after refusals 21 to 23.
-pub record EndsRules (n : ℕ) (e : Ends) : Type 0 where
-  pub some : 1 ≤ length (e .nodes)
-  pub few : length (e .nodes) ≤ maxEnds
-  pub columns : length (e .offsets) ≡ length (e .nodes)
-  pub each : (x : End) → In x (endList e) → EndRules n x
-  pub listed : length (endList e) ≤ length (e .nodes)
 
 offset-fitting : (w : ℕ) → offset-fits w ≡ true → (w ≤ maxWeight) ⊎ (w ≡ noWeight)
 unfolding offset-fits
@@ -72,13 +64,6 @@ ends-rules n e fit below fits =
           };
       listed = zipped-length (e .nodes) (e .offsets);
     }
-
-pub record Accepted (q : QueryCall) : Type 0 where
-  pub rules : TableRules (q .nodes) (q .hierarchy)
-  pub sources : EndsRules (q .nodes) (q .sources)
-  pub targets : EndsRules (q .nodes) (q .targets)
-  pub path-room : q .nodes ≤ length (q .path)
-  pub scratch-room : short (query-scratch (q .nodes) (q .hierarchy)) (q .scratch) ≡ false
 
 pub accepted : (q : QueryCall) → query-refusal q ≡ 0 → Accepted q
 unfolding query-refusal check-rows end-rows

@@ -11,9 +11,9 @@ use Rattle.rules.specs.TableRules.{used, TableRules}
 use Rattle.rules.specs.Query.{End, endList, Half, untouched, enter}
 use Rattle.rules.specs.Lists.{In}
 use Rattle.walks.proofs.Places.{place-entry}
-use Rattle.query_laws.proofs.Offers.{weight-at, end-offer, after-enter}
-use Rattle.query_laws.proofs.State.{LabelRules, Sound}
-use Rattle.query_laws.proofs.Accepted.{EndsRules}
+use Rattle.query_laws.specs.Sound.{weight-at, LabelRules, Sound}
+use Rattle.query_laws.proofs.Offers.{end-offer, after-enter}
+use Rattle.query_laws.specs.Accepted.{EndsRules}
 
 pub enter-room : (es : List End) → length (enter es untouched .heap) ≤ length es
 unfolding untouched

@@ -19,8 +19,7 @@ use Rattle.rules.proofs.Prefixes.{flat-map-append}
 use Rattle.walks.specs.Promise.{Promise}
 use Rattle.walks.proofs.Places.{place-entry, place-used}
 use Rattle.query_laws.proofs.Walks.{Towards, joined, towards-nowhere, towards-join, Solid, place-leads}
-use Rattle.query_laws.proofs.Offers.{weight-at}
-use Rattle.query_laws.proofs.State.{Along, Origin, unlabelled, listed, came, Sound}
+use Rattle.query_laws.specs.Sound.{weight-at, Along, Origin, unlabelled, listed, came, Sound}
 
 module _ (f : ℕ) (x : Half) (v : ℕ) where
   pub climb-end : eqb (x .label v .via) invalid ≡ true → climb (suc f) x v ≡ []

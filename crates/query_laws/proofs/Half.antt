@@ -2,19 +2,18 @@
 -- walk leads from a counting source to a counting target, and otherwise a least walk (steps 12 and 13).
 use mathlib.Core.Path.{_≡_, sym, _∙_, ap, subst}
 use mathlib.Core.Logic.{inl, inr}
-use mathlib.Core.Bool.{true, false}
+use mathlib.Core.Bool.{true}
 use mathlib.Core.List.{List, append-assoc}
 use Prim.Native.Nat.{ℕ, suc, _+_, _*_, _≤_, _<_}
 use native.Mathlib.Omega.{arith}
-use lib.Dec.{eqb}
 use lib.ListN.{length}
-use borrow.Author.Tests.{eq-eqb, ne-eqb, le-ltb}
+use borrow.Author.Tests.{eq-eqb, ne-eqb}
 use Rattle.rules.specs.Numbers.{maxWeight, invalid}
 use Rattle.rules.specs.Lists.{distinct, over}
 use Rattle.rules.specs.Columns.{Link, Hierarchy, Side, forward, backward, rank, Ends}
 use Rattle.rules.specs.TableRules.{TableRules}
 use Rattle.rules.specs.Refusals.{QueryCall, query-refusal}
-use Rattle.rules.specs.Query.{endList, Best, Halves, climb, root, walk, no-route, handed-back, searched, route, unless-refused, query}
+use Rattle.rules.specs.Query.{endList, Best, climb, root, walk, no-route, searched}
 use Rattle.rules.proofs.Cases.{on-test}
 use Rattle.rules.proofs.Pigeonhole.{at-most}
 use Rattle.walks.specs.Paths.{Path, stay, step}
@@ -24,9 +23,10 @@ use Rattle.walks.proofs.Paths.{join}
 use Rattle.walks.proofs.Places.{place-entry}
 use Rattle.query_laws.specs.LeastWalk.{Counts, Unreachable, LeastWalk, AnsweredNone, AnsweredWalk, Answered}
 use Rattle.query_laws.proofs.Walks.{Trail, trail-path, shorter, trail-nodes, leads-join, leads-trail, leads-path, Solid, solid-path, trail-walk, walk-path, chain-leads}
-use Rattle.query_laws.proofs.Offers.{weight-at}
-use Rattle.query_laws.proofs.Turns.{Met, no-best, Both}
-use Rattle.query_laws.proofs.Accepted.{EndsRules, Accepted, accepted, searched-both, searched-empty}
+use Rattle.query_laws.specs.Sound.{weight-at, Met, no-best, Both}
+use Rattle.query_laws.specs.Accepted.{EndsRules, Accepted}
+use Rattle.query_laws.proofs.Accepted.{accepted, searched-both, searched-empty}
+use Rattle.query_laws.proofs.Answers.{accepted-query, route-none, route-found, handed-fits}
 use Rattle.query_laws.proofs.Chains.{Chain, chain, opened}
 use Rattle.query_laws.proofs.Least.{least}
 
@@ -39,25 +39,6 @@ chain-light n h rules s {m} {u} {w} (step v x y (e, here, to, weighs) adds r) be
     let rest = chain-light n h rules s r (rw to at (z .neighbour-below)) in
     let high = rw to at (z .neighbour-higher) in
     (omega (arith, rest .0, z .weight-high, high), rest .1)
-
-accepted-query : (q : QueryCall) → query-refusal q ≡ 0 → query q ≡ route q (searched q)
-unfolding query unless-refused
-accepted-query q fine = rw fine
-
-module _ (q : QueryCall) (x : Halves) where
-  route-none : eqb (x .best .node) invalid ≡ true → route q x ≡ no-route q 0
-  unfolding route
-  route-none t = rw (t, route)
-
-  route-found : eqb (x .best .node) invalid ≡ false → route q x ≡ handed-back q (x .best .sum) (walk (q .hierarchy) (q .nodes) x (x .best .node))
-  unfolding route
-  route-found t = rw (t, route)
-
--- a walk that fits the path buffer is handed back
-handed-fits : (q : QueryCall) (w : ℕ) (vs : List ℕ) → length vs ≤ length (q .path) →
-    handed-back q w vs ≡ record { number = 0; weight = w; walk = vs; path = over (q .path) vs }
-unfolding handed-back
-handed-fits q w vs fits = rw (le-ltb (length (q .path)) (length vs) fits, handed-back)
 
 module _ (ls : List Link) (q : QueryCall) (promise : Promise (q .nodes) ls (q .hierarchy)) (a : Accepted q) where
   both : Both (q .nodes) (q .hierarchy) (endList (q .sources)) (endList (q .targets)) (searched q)

@@ -16,9 +16,8 @@ use Rattle.walks.specs.Promise.{Promise, Entries}
 use Rattle.walks.proofs.Paths.{join}
 use Rattle.walks.proofs.Places.{place-entry}
 use Rattle.query_laws.proofs.Walks.{Towards, towards-join, towards-back, Solid, solid-path, leads-path, place-leads, chain-leads}
-use Rattle.query_laws.proofs.Offers.{weight-at}
-use Rattle.query_laws.proofs.State.{Stalled, waiting, done, stalled, heavy, Sound}
-use Rattle.query_laws.proofs.Turns.{Both, best-at-most}
+use Rattle.query_laws.specs.Sound.{weight-at, Stalled, waiting, done, stalled, heavy, Sound, Both}
+use Rattle.query_laws.proofs.Turns.{best-at-most}
 use Rattle.query_laws.proofs.Chains.{chain, opened}
 
 -- Going up from an end to m, for a total of at most `total` with the rest d, where no other way makes less than that and the

@@ -6,6 +6,7 @@ pub mod State
 pub mod Taken
 pub mod Turns
 pub mod Accepted
+pub mod Answers
 pub mod Bounds
 pub mod Chains
 pub mod Least

@@ -11,14 +11,12 @@ use lib.ListN.{length, length-append}
 use borrow.Author.Tests.{ltb-true, ltb-false}
 use Rattle.rules.specs.Numbers.{invalid}
 use Rattle.rules.specs.Lists.{In, update}
-use Rattle.rules.specs.Heap.{Item, push}
+use Rattle.rules.specs.Heap.{Item, push, Sorted}
 use Rattle.rules.specs.Columns.{Table, entry}
 use Rattle.rules.specs.Query.{End, Label, lower, Half, offer, enter, relax}
 use Rattle.rules.proofs.Cases.{on-test}
-use Rattle.rules.proofs.Heaps.{update-same, update-other, Sorted, push-has, push-keeps, push-in, push-length, push-sorted}
-
-abbrev pub weight-at : Half → ℕ → ℕ
-weight-at x v = x .label v .weight
+use Rattle.rules.proofs.Heaps.{update-same, update-other, push-has, push-keeps, push-in, push-length, push-sorted}
+use Rattle.query_laws.specs.Sound.{weight-at}
 
 -- A node and the label that it is offered.
 pub record Offer : Type 0 where

@@ -1,30 +1,23 @@
--- What holds of one side's search at every step of a query, on any tables that pass the table rules: steps 7 to 9 of
--- the paper proof. One record, kept by every way to take an item out.
+-- A search starts sound, and every way to take an item out keeps it so: steps 7 to 9 of
+-- the paper proof.
 use mathlib.Core.Path.{_≡_, refl, sym, _∙_, ap, subst}
-use mathlib.Core.Logic.{_⊎_, inl, inr}
+use mathlib.Core.Logic.{inl, inr}
 use mathlib.Core.Bool.{Bool, true, false, false≢true}
 use mathlib.Core.List.{List, map, List·Memᴰ·not-nil, Memᴰ·map, Memᴰ·of-map}
-use Prim.Native.Nat.{ℕ, zero, suc, _+_, _-_, _*_, _≤_, _<_, min}
+use Prim.Native.Nat.{ℕ, zero, suc, _+_, _-_, _≤_, _<_, min}
 use native.Mathlib.Omega.{arith}
 use native.Mathlib.Decide.{decLt, ℕ-discrete}
-use lib.ListN.{length, length-map}
+use lib.ListN.{length-map}
 use Rattle.rules.specs.Numbers.{maxWeight, noWeight, invalid}
 use Rattle.rules.specs.Lists.{In, update}
 use Rattle.rules.specs.Heap.{Item}
-use Rattle.rules.specs.Columns.{Table, Hierarchy, Side, opposite, table, entry, rank, places}
+use Rattle.rules.specs.Columns.{Table, Hierarchy, Side, table, entry}
 use Rattle.rules.specs.TableRules.{used, TableRules}
 use Rattle.rules.specs.Query.{End, Label, no-label, Half, untouched, enter}
-use Rattle.rules.proofs.Heaps.{update-same, update-other, Sorted, sorted-none}
-use Rattle.query_laws.proofs.Offers.{weight-at, Offer, Lowered, After, falls, lowered-weight, lowered-waits, end-offer, after-enter}
-
--- How many of a table's first k entries have a base that is not settled: each may still be offered along, once.
-one-unless : Bool → ℕ
-one-unless true = 0
-one-unless false = 1
-
-pub unsettled : Table → (ℕ → Bool) → ℕ → ℕ
-unsettled t settled zero = 0
-unsettled t settled (suc k) = one-unless (settled (entry t k .base)) + unsettled t settled k
+use Rattle.rules.proofs.Heaps.{update-same, update-other, sorted-none}
+use Rattle.query_laws.specs.Accepted.{EndRules}
+use Rattle.query_laws.specs.Sound.{weight-at, one-unless, unsettled, Origin, unlabelled, listed, Standing, waiting, done, stalled, heavy, ItemRules, Sound}
+use Rattle.query_laws.proofs.Offers.{Offer, Lowered, After, falls, lowered-weight, lowered-waits, end-offer, after-enter}
 
 unsettled-first : (t : Table) (k : ℕ) → unsettled t (λ _. false) k ≡ k
 unfolding unsettled one-unless
@@ -53,70 +46,6 @@ unsettled-less t settled v a c yet rise bases (suc k) =
                 ]
           ])
     ]
-
--- how many items a side's search may still take out
-abbrev pub load : ℕ → Hierarchy → Side → Half → ℕ
-load n h s x = length (x .heap) + unsettled (table h s) (x .settled) (used n (table h s))
-
--- A label that came along an entry: its parent is settled, and the entry is one of the parent's.
-pub record Along (h : Hierarchy) (s : Side) (x : Half) (v : ℕ) (l : Label) : Type 0 where
-  pub parent-settled : x .settled (l .parent) ≡ true
-  pub place : In (l .via) (places (table h s) (rank h (l .parent)))
-  pub leads-to : entry (table h s) (l .via) .neighbour ≡ v
-  pub adds-up : l .weight ≡ weight-at x (l .parent) + entry (table h s) (l .via) .weight
-
--- Where a node's label l comes from.
-pub data Origin (h : Hierarchy) (s : Side) (es : List End) (x : Half) (v : ℕ) (l : Label) : Type 0 where
-  unlabelled : l ≡ no-label → Origin h s es x v l
-  listed : In (record { node = v; offset = l .weight }) es → l .via ≡ invalid → l .weight < noWeight → Origin h s es x v l
-  came : Along h s x v l → Origin h s es x v l
-
--- A higher neighbour, through the other table's entry between them, gives less than the node's label.
-pub record Stalled (h : Hierarchy) (s : Side) (x : Half) (v w : ℕ) : Type 0 where
-  pub via : ℕ
-  pub place : In via (places (table h (opposite s)) (rank h v))
-  pub less : weight-at x (entry (table h (opposite s)) via .neighbour) + entry (table h (opposite s)) via .weight < w
-
--- Where a labelled node stands, when the best sum is b.
-pub data Standing (h : Hierarchy) (s : Side) (b : ℕ) (x : Half) (v : ℕ) : Type 0 where
-  waiting : In (record { weight = weight-at x v; node = v }) (x .heap) → Standing h s b x v
-  done : x .settled v ≡ true → Standing h s b x v
-  stalled : Stalled h s x v (weight-at x v) → Standing h s b x v
-  heavy : b < weight-at x v → Standing h s b x v
-
-pub record ItemRules (n : ℕ) (h : Hierarchy) (floor : ℕ) (x : Half) (i : Item) : Type 0 where
-  pub node-below : i .node < n
-  pub above : floor ≤ i .weight
-  pub label-below : weight-at x (i .node) ≤ i .weight
-  pub bounded : i .weight ≤ maxWeight * suc (rank h (i .node))
-
-pub record LabelRules (n : ℕ) (h : Hierarchy) (x : Half) (v : ℕ) : Type 0 where
-  pub node-below : v < n
-  pub bounded : weight-at x v ≤ maxWeight * suc (rank h v)
-
-pub record SettledRules (n : ℕ) (h : Hierarchy) (s : Side) (floor : ℕ) (x : Half) (v : ℕ) : Type 0 where
-  pub node-below : v < n
-  pub low : weight-at x v ≤ floor
-  pub labelled : weight-at x v < noWeight
-  pub offered : (e : ℕ) → In e (places (table h s) (rank h v)) →
-      weight-at x (entry (table h s) e .neighbour) ≤ weight-at x v + entry (table h s) e .weight
-
--- The floor is the weight last taken out; b is the best sum.
-pub record Sound (n : ℕ) (h : Hierarchy) (s : Side) (es : List End) (floor b : ℕ) (x : Half) : Type 0 where
-  pub sorted : Sorted (x .heap)
-  pub items : (i : Item) → In i (x .heap) → ItemRules n h floor x i
-  pub at-most : (v : ℕ) → weight-at x v ≤ noWeight
-  pub labels : (v : ℕ) → weight-at x v < noWeight → LabelRules n h x v
-  pub origins : (v : ℕ) → Origin h s es x v (x .label v)
-  pub standing : (v : ℕ) → weight-at x v < noWeight → Standing h s b x v
-  pub settled : (v : ℕ) → x .settled v ≡ true → SettledRules n h s floor x v
-  pub covers : (e : End) → In e es → weight-at x (e .node) ≤ e .offset
-  pub room : load n h s x ≤ length es + used n (table h s)
-
--- What the refusals leave of ends.
-pub record EndRules (n : ℕ) (e : End) : Type 0 where
-  pub node-below : e .node < n
-  pub fits : (e .offset ≤ maxWeight) ⊎ (e .offset ≡ noWeight)
 
 -- a lower best sum makes more nodes heavy, and nothing else
 pub better : {n : ℕ} {h : Hierarchy} {s : Side} {es : List End} {floor b c : ℕ} {x : Half} → c ≤ b → Sound n h s es floor b x →

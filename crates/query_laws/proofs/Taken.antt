@@ -20,8 +20,9 @@ use Rattle.rules.proofs.Cases.{on-test, not-both}
 use Rattle.rules.proofs.Members.{in-any, any-in}
 use Rattle.rules.proofs.Heaps.{update-same, update-other, sorted-first, sorted-rest}
 use Rattle.walks.proofs.Places.{place-entry, place-base, places-within, places-length, in-places}
-use Rattle.query_laws.proofs.Offers.{weight-at, Offer, After, falls, lowered-weight, lowered-waits, entry-offer, after-relax}
-use Rattle.query_laws.proofs.State.{unsettled, unsettled-less, load, Origin, unlabelled, listed, came, Stalled, Standing, waiting, done, stalled, heavy, ItemRules, LabelRules, SettledRules, Sound}
+use Rattle.query_laws.specs.Sound.{weight-at, unsettled, load, Origin, unlabelled, listed, came, Stalled, Standing, waiting, done, stalled, heavy, ItemRules, LabelRules, SettledRules, Sound}
+use Rattle.query_laws.proofs.Offers.{Offer, After, falls, lowered-weight, lowered-waits, entry-offer, after-relax}
+use Rattle.query_laws.proofs.State.{unsettled-less}
 
 -- The stall test, read.
 module _ (h : Hierarchy) (s : Side) (x : Half) (i : Item) where

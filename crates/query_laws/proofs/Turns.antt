@@ -8,15 +8,15 @@ use native.Mathlib.Omega.{arith}
 use lib.Dec.{ltb}
 use lib.ListN.{length}
 use borrow.Author.Tests.{ltb-true, ltb-false}
-use Rattle.rules.specs.Numbers.{noWeight, invalid}
+use Rattle.rules.specs.Numbers.{noWeight}
 use Rattle.rules.specs.Heap.{Item}
 use Rattle.rules.specs.Columns.{Hierarchy, Side, forward, backward, opposite, entries}
 use Rattle.rules.specs.TableRules.{TableRules}
 use Rattle.rules.specs.Query.{End, Best, improve, Label, Half, with-heap, stalls, settle, Turned, turn, Halves, round, both-empty, rounds}
 use Rattle.rules.proofs.Cases.{on-test}
 use Rattle.rules.proofs.Lists.{empty-of-length}
-use Rattle.query_laws.proofs.Offers.{weight-at}
-use Rattle.query_laws.proofs.State.{load, Sound, better}
+use Rattle.query_laws.specs.Sound.{weight-at, load, Sound, Meets, Both, both-loads}
+use Rattle.query_laws.proofs.State.{better}
 use Rattle.query_laws.proofs.Taken.{Clear, stall-none, taken-item, pops-never-fall, pass-settled, pass-heavy, pass-stalled, settle-sound, settle-load, settle-settled, settle-falls, settle-stays, settle-own}
 
 -- A turn's four outcomes.
@@ -39,20 +39,6 @@ module _ (h : Hierarchy) (s : Side) (y : Half) (b : Best) (x : Half) (i : Item) 
           turn h s y b x (i ∷ q) ≡ record { half = settle h s i (with-heap q x); best = improve (i .weight + weight-at y (i .node)) (i .node) b }
       unfolding turn
       turn-settles t = rw (yet, light, t, turn)
-
--- The best sum is at most what two settled labels of a node make, and, where it is set, at least what the labels of its
--- meeting node make.
-pub record Met (n : ℕ) (x y : Half) (b : Best) : Type 0 where
-  pub node-below : b .node < n
-  pub set : b .sum < noWeight
-  pub enough : weight-at x (b .node) + weight-at y (b .node) ≤ b .sum
-
-abbrev pub no-best : Best
-no-best = record { sum = noWeight; node = invalid }
-
-pub record Meets (n : ℕ) (x y : Half) (b : Best) : Type 0 where
-  pub low : (v : ℕ) → x .settled v ≡ true → y .settled v ≡ true → b .sum ≤ weight-at x v + weight-at y v
-  pub real : (b ≡ no-best) ⊎ Met n x y b
 
 pub meets-swap : {n : ℕ} {x y : Half} {b : Best} → Meets n x y b → Meets n y x b
 meets-swap {n} {x} {y} {b} m =
@@ -226,17 +212,6 @@ module _ (n : ℕ) (h : Hierarchy) (rules : TableRules n h) (s : Side) (es : Lis
       (λ t.
       rw (turn-settles h s y b x i q yet light t)
       (settled-turn floor b x i q k m yet (ltb-false (b .sum) (i .weight) light) (stall-none h s x i t)))))
-
--- Both searches and the best sum.
-pub record Both (n : ℕ) (h : Hierarchy) (ss ts : List End) (q : Halves) : Type 0 where
-  pub fwd-floor : ℕ
-  pub bwd-floor : ℕ
-  pub fwd : Sound n h forward ss fwd-floor (q .best .sum) (q .fwd)
-  pub bwd : Sound n h backward ts bwd-floor (q .best .sum) (q .bwd)
-  pub meets : Meets n (q .fwd) (q .bwd) (q .best)
-
-abbrev pub both-loads : ℕ → Hierarchy → Halves → ℕ
-both-loads n h q = load n h forward (q .fwd) + load n h backward (q .bwd)
 
 no-items : (p q : List Item) → both-empty p q ≡ true → (p ≡ []) × (q ≡ [])
 unfolding both-empty

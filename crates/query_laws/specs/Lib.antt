@@ -1,2 +1,4 @@
--- What a query must answer.
+-- What a query must answer, what it brings, and what its searches keep.
 pub mod LeastWalk
+pub mod Accepted
+pub mod Sound

@@ -10,7 +10,6 @@ use lib.ListN.{length, take}
 use lib.Seq.{take-all}
 use borrow.Author.Tests.{eq-eqb, ne-eqb, lt-ltb, le-ltb, ltb-false}
 use Rattle.rules.specs.Numbers.{maxNodes}
-use Rattle.rules.specs.Lists.{all}
 use Rattle.rules.specs.Columns.{Links}
 use Rattle.rules.specs.Refusals.{Row, row, first-met, short, build-scratch, graph-rows, graph-refusal}
 use Rattle.rules.proofs.Cases.{on-test}

@@ -1,25 +1,25 @@
 -- Two turns make a round, and rounds go on until both heaps are empty.
-use mathlib.Core.Bool.{Bool, true, false}
+use mathlib.Core.Bool.{true, false}
 use mathlib.Core.List.{List, [], _∷_}
 use mathlib.Core.Path.{_≡_, refl, sym, ap, _∙_}
-use Prim.Native.Nat.{ℕ, zero, suc, _+_, _*_, _-_, _^_, _<_, _≤_}
+use Prim.Native.Nat.{ℕ, zero, suc, _+_, _-_, _^_, _<_, _≤_}
 use native.Mathlib.Omega.{arith}
 use lib.ListN.{length}
-use Rattle.rules.specs.Numbers.{noWeight, maxNodes, maxWeight}
+use Rattle.rules.specs.Numbers.{noWeight}
 use Rattle.rules.specs.Heap.{Item}
-use Rattle.rules.specs.Columns.{Hierarchy, Side, forward, backward, opposite, table}
-use Rattle.rules.specs.TableRules.{used, TableRules}
-use Rattle.rules.specs.Query.{End, Best, Label, Half, with-heap, Turned, turn, Halves, round, both-empty, rounds}
+use Rattle.rules.specs.Columns.{Hierarchy, Side, forward, backward, opposite}
+use Rattle.rules.specs.TableRules.{TableRules}
+use Rattle.rules.specs.Query.{End, Best, Label, Half, with-heap, turn, Halves, round, both-empty, rounds}
 use Rattle.heap.specs.Items.{items, sorted}
-use Rattle.heap.specs.Promises.{Holds}
 use Rattle.heap.proofs.Laws.{holds-size}
-use Rattle.query_laws.proofs.State.{Sound, better}
-use Rattle.query_laws.proofs.Turns.{AfterTurn, Both, both-loads, turn-keeps, meets-swap, round-keeps, round-fewer}
+use Rattle.query_laws.specs.Sound.{Sound, Both, both-loads}
+use Rattle.query_laws.proofs.State.{better}
+use Rattle.query_laws.proofs.Turns.{AfterTurn, turn-keeps, round-keeps, round-fewer}
 use Rattle.query_laws.proofs.Bounds.{label-at-most}
 use Rattle.halves.specs.Labels.{seen, half}
 use Rattle.halves.proofs.Labels.{label-in}
 use Rattle.turns.specs.Turning.{View, Turning, Turns}
-use Rattle.rounds.specs.Rounds.{halves, Heap, Rounding, Rounded, Running, Ran}
+use Rattle.rounds.specs.Rounds.{halves, Heap, Rounding, Rounded, Running}
 
 -- a labelled node's weight is far below the mark
 low-label : (n : ℕ) (h : Hierarchy) → TableRules n h → (s : Side) (es : List End) (floor b base len : ℕ) (labels heap : List ℕ) →

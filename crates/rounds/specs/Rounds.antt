@@ -8,7 +8,7 @@ use Rattle.rules.specs.TableRules.{used, TableRules}
 use Rattle.rules.specs.Query.{End, Best, Halves, round, rounds}
 use Rattle.heap.specs.Items.{items}
 use Rattle.heap.specs.Shape.{Ordered}
-use Rattle.query_laws.proofs.Turns.{Both, both-loads}
+use Rattle.query_laws.specs.Sound.{Both, both-loads}
 use Rattle.halves.specs.Labels.{half}
 use Rattle.turns.specs.Turning.{View}
 

@@ -22,13 +22,14 @@ use Rattle.build_laws.proofs.Refused.{build-half}
 use Rattle.build_laws.proofs.Enough.{never-10, never-11}
 use Rattle.build_laws.proofs.Laws.{build-passes, cut-passes, ranks-inverse, no-neighbour-twice}
 use Rattle.query_laws.proofs.Unpacking.{unpacked-shortcut, unpacked-plain}
-use Rattle.query_laws.proofs.State.{Sound}
-use Rattle.query_laws.proofs.Turns.{Both, rounds-keep}
-use Rattle.query_laws.proofs.Accepted.{EndsRules, Accepted, accepted, entered-both, searched-both, searched-empty}
+use Rattle.query_laws.specs.Sound.{Sound, Both}
+use Rattle.query_laws.proofs.Turns.{rounds-keep}
+use Rattle.query_laws.specs.Accepted.{EndsRules, Accepted}
+use Rattle.query_laws.proofs.Accepted.{accepted, entered-both, searched-both, searched-empty}
 use Rattle.query_laws.proofs.Bounds.{heap-room, heap-fits}
 use Rattle.query_laws.proofs.Chains.{climb-enough, root-enough}
 use Rattle.routes.specs.Demands.{Searched, begun, asked, added, Small, Demands}
-use Rattle.routes.proofs.ProgramFuel.{digits-enough, lines-enough}
+use Rattle.rules.proofs.ProgramFuel.{digits-enough, lines-enough}
 use Rattle.routes.proofs.ThirdDemand.{third-demand}
 
 -- what one more does not change, any more does not

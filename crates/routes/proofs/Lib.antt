@@ -1,5 +1,4 @@
 -- The demands, from the laws of searches, builds and queries.
-pub mod ProgramFuel
 pub mod Decimals
 pub mod Rooms
 pub mod Records

@@ -17,7 +17,7 @@ use Rattle.rules.specs.TableRules.{used}
 use Rattle.rules.specs.Refusals.{BuildCall, QueryCall, query-refusal}
 use Rattle.rules.specs.Build.{build}
 use Rattle.rules.specs.Query.{End, zip-ends, endList, query}
-use Rattle.rules.specs.Program.{word-built, word-route, word-none, word-refused, word-bad-record, word-too-long, decimal, line, refused-line, built-line, route-line, bad-record, record-length, kind-of, whole, u16-at, u32-at, link-at, blank-table, program-call, query-call, Phase, waiting, gathering, answering, Next, goes-on, stops, misplaced, after-build, at-limit, answer-line, no-order-yet, act, at-end, follow, lines, program}
+use Rattle.rules.specs.Program.{word-built, word-route, word-none, word-refused, word-bad-record, word-too-long, decimal, line, refused-line, counts-line, built-line, route-line, bad-record, record-length, kind-of, whole, u16-at, u32-at, link-at, blank-table, program-call, query-call, Phase, waiting, gathering, answering, Next, goes-on, stops, misplaced, after-build, at-limit, answer-line, no-order-yet, act, at-end, follow, lines, program}
 use Rattle.rules.proofs.Cases.{on-test}
 use Rattle.rules.proofs.Members.{getD-in, weight-in}
 use Rattle.rules.proofs.Accepted.{accepted-build}
@@ -29,7 +29,7 @@ use Rattle.query_laws.specs.LeastWalk.{AnsweredWalk}
 use Rattle.query_laws.proofs.Accepted.{accepted}
 use Rattle.routes.specs.Records as spec
 use Rattle.routes.specs.Records.{AllBytes, Told, Line, Lines, Records}
-use Rattle.routes.proofs.ProgramFuel.{whole-fits}
+use Rattle.rules.proofs.ProgramFuel.{whole-fits}
 use Rattle.routes.proofs.Decimals.{decimal-says, decimal-few}
 use Rattle.routes.proofs.Rooms.{call, weights-small, build-numbers, asked, answered, query-numbers}
 
@@ -74,7 +74,7 @@ bad-record-short at low =
     rw (append-assoc word-bad-record (decimal at) (0x0A ∷ [])) (one-line (spec.bad-record at low), omega (arith, length-append (decimal at) (0x0A ∷ [])))
 
 built-short : (n : ℕ) (h : Hierarchy) → used n (h .forward) ≤ 496 → used n (h .backward) ≤ 496 → Short 14 (built-line n h)
-unfolding built-line line word-built bytes
+unfolding built-line counts-line line word-built bytes
 built-short n h fwd bwd =
     let f = decimal (used n (h .forward)) in
     let b = decimal (used n (h .backward)) in

@@ -9,7 +9,7 @@ use lib.Dec.{eqb, ltb, leb}
 use lib.ListN.{length}
 use borrow.Author.Tests.{eqb-true, eq-eqb, ne-eqb, ltb-true, ltb-false}
 use Rattle.rules.specs.Lists.{In, update}
-use Rattle.rules.specs.Heap.{Item, leaves-first, push}
+use Rattle.rules.specs.Heap.{Item, leaves-first, push, Sorted}
 use Rattle.rules.proofs.Cases.{on-test, not-both}
 use Rattle.rules.proofs.Decides.{and-both, or-either, left-or}
 
@@ -21,11 +21,6 @@ module _ {A : Type 0} (at : ℕ) (value : A) (f : ℕ → A) where
   pub update-other : (k : ℕ) → (k ≡ at → ⊥) → update at value f k ≡ f k
   unfolding update
   update-other k e = rw (ne-eqb k at e, update)
-
--- The heap: no item stands before a lighter one.
-pub Sorted : List Item → Type 0
-Sorted [] = Unit {0}
-Sorted (i ∷ q) = ((j : Item) → In j q → i .weight ≤ j .weight) × Sorted q
 
 pub sorted-none : Sorted []
 unfolding Sorted

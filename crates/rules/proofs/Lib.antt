@@ -23,3 +23,4 @@ pub mod Answers
 pub mod Turns
 pub mod Settles
 pub mod FirstDemand
+pub mod ProgramFuel

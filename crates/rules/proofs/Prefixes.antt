@@ -1,14 +1,14 @@
 -- Lists laid end to end: where each begins, and what stands there.
 use mathlib.Core.Path.{_≡_, refl, sym, _∙_, ap}
 use mathlib.Core.Logic.{inl, inr}
-use mathlib.Core.List.{List, [], _∷_, _++_, map, map-append, append-assoc, List·Memᴰ·head, List·Memᴰ·tail, List·Memᴰ·cases-cons, List·Memᴰ·not-nil, Memᴰ·append-left, Memᴰ·append-right, List·Memᴰ·append-cases}
+use mathlib.Core.List.{List, [], _∷_, _++_, map, map-append, append-nil, append-assoc, List·Memᴰ·head, List·Memᴰ·tail, List·Memᴰ·cases-cons, List·Memᴰ·not-nil, Memᴰ·append-left, Memᴰ·append-right, List·Memᴰ·append-cases}
 use Prim.Native.Nat.{ℕ, zero, suc, _+_, _-_, _*_, _≤_, _<_, zero-le}
 use native.Mathlib.Omega.{arith}
 use native.Mathlib.Decide.{ℕ-discrete, decLt}
-use native.Mathlib.Nat.{zero-add, add-assoc, mul-suc}
+use native.Mathlib.Nat.{add-zero, zero-add, add-assoc, mul-suc}
 use lib.ListN.{length, getD, set, take, drop, length-append, length-drop, length-map, List·getD-append}
-use lib.Seq.{getD-append-add, drop-cons, set-at, take-append-seam, drop-append-seam, drop-drop}
-use Rattle.rules.specs.Lists.{In, flat-map, over, count-from, range}
+use lib.Seq.{getD-append-add, drop-cons, set-at, set-out, take-append-seam, drop-append-seam, drop-drop}
+use Rattle.rules.specs.Lists.{In, flat-map, over, written, count-from, range}
 use Rattle.rules.specs.Build.{running-sums}
 
 -- the first r numbers together
@@ -123,6 +123,31 @@ over-next lent values k x e h =
   where
     longer : suc k ≡ length (values ++ x ∷ [])
     longer = omega (arith, length-append values (x ∷ []))
+
+-- What is written, part after part.
+pub written-parts : (lent : List ℕ) (at : ℕ) (xs ys : List ℕ) → written lent at (xs ++ ys) ≡ written (written lent at xs) (at + length xs) ys
+unfolding written
+written-parts lent at [] ys = rw (add-zero at)
+written-parts lent at (x ∷ xs) ys =
+    let same : suc at + length xs ≡ at + suc (length xs) = omega arith in
+    rw (← same) (written-parts (set lent at x) (suc at) xs ys)
+
+pub written-nowhere : (at : ℕ) (xs : List ℕ) → written [] at xs ≡ []
+unfolding written
+written-nowhere at [] = refl
+written-nowhere at (x ∷ xs) = rw (set-out [] at x zero-le) (written-nowhere (suc at) xs)
+
+written-onward : (lent done xs : List ℕ) (at : ℕ) → length done ≡ at → at + length xs ≤ length lent → written (over lent done) at xs ≡ over lent (done ++ xs)
+unfolding written
+written-onward lent done [] at e h = rw (append-nil done)
+written-onward lent done (x ∷ xs) at e h =
+    rw (over-next lent done at x e (omega arith))
+    (written-onward lent (done ++ x ∷ []) xs (suc at) (omega (arith, length-append done (x ∷ []))) (omega arith) ∙
+    ap (over lent) (append-assoc done (x ∷ []) xs))
+
+pub written-over : (lent xs : List ℕ) → length xs ≤ length lent → written lent 0 xs ≡ over lent xs
+unfolding over
+written-over lent xs h = written-onward lent [] xs 0 refl (omega arith)
 
 -- of a column of things
 pub column-next : {A : Type 0} (lent now : List ℕ) (part : A → ℕ) (found : List A) (f : A) (k x : ℕ) → now ≡ over lent (map part found) → x ≡ part f →

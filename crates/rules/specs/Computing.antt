@@ -41,7 +41,7 @@ unfolding
     Query.walk Query.no-route Query.handed-back Query.query-fuel Query.entered Query.searched Query.route
     Query.unless-refused Query.query
     Program.word-built Program.word-route Program.word-none Program.word-refused Program.word-bad-record
-    Program.word-too-long Program.digits Program.decimal Program.line Program.refused-line Program.built-line
+    Program.word-too-long Program.digits Program.decimal Program.line Program.refused-line Program.counts-line Program.built-line
     Program.route-line Program.bad-record Program.record-length Program.kind-of Program.whole Program.u16-at
     Program.u32-at Program.link-at Program.blank-table Program.program-call Program.query-call Program.after-build
     Program.at-limit Program.answer-line Program.no-order-yet Program.act Program.at-end Program.follow Program.lines Program.program

@@ -5,7 +5,7 @@ use mathlib.Core.Bool.{Bool, true, false, not, _&&_, _||_}
 use mathlib.Core.List.{List, [], _∷_, _++_, List·Memᴰ}
 use Prim.Native.Nat.{ℕ, zero, suc, _-_}
 use lib.Dec.{eqb}
-use lib.ListN.{length, drop, replicate}
+use lib.ListN.{length, drop, set, replicate}
 
 -- a test decides a fact: it is true exactly if the fact holds
 abbrev pub Decides : Bool → Type 0 → Type 0
@@ -51,6 +51,11 @@ module _ {ℓ κ} {A : Type ℓ} {B : Type κ} where
   unfoldable pub flat-map : (A → List B) → List A → List B
   flat-map f [] = []
   flat-map f (x ∷ xs) = f x ++ flat-map f xs
+
+-- written from a place on, as far as there are places: beyond the end a store changes nothing
+unfoldable pub written : List ℕ → ℕ → List ℕ → List ℕ
+written lent at [] = lent
+written lent at (x ∷ xs) = written (set lent at x) (suc at) xs
 
 -- n numbers from a on
 unfoldable pub count-from : ℕ → ℕ → List ℕ

@@ -58,9 +58,12 @@ line bs = bs ++ (newline ∷ [])
 unfoldable pub refused-line : ℕ → List ℕ
 refused-line r = line (word-refused ++ decimal r)
 
+-- "after `built ` come the counts of forward and backward entries"
+unfoldable pub counts-line : ℕ → ℕ → List ℕ
+counts-line fwd bwd = line (word-built ++ (decimal fwd ++ (space ∷ decimal bwd)))
+
 unfoldable pub built-line : ℕ → Hierarchy → List ℕ
-built-line n h =
-    line (word-built ++ (decimal (used n (h .forward)) ++ (space ∷ decimal (used n (h .backward)))))
+built-line n h = counts-line (used n (h .forward)) (used n (h .backward))
 
 -- "route 5: 0 1 2"; a route has a node, so an empty walk is "none"
 unfoldable pub route-line : ℕ → List ℕ → List ℕ

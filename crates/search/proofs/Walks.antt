@@ -9,7 +9,7 @@ use Rattle.rules.specs.Numbers.{invalid, maxWeight}
 use Rattle.rules.specs.Lists.{In, keep}
 use Rattle.rules.specs.Graph.{Arc, leaves, enters, outs, ins}
 use Rattle.rules.proofs.Members.{in-keep, in-map}
-use Rattle.lists.specs.Memory.{memory, at, first, arc-at, touches}
+use Rattle.lists.specs.Memory.{memory, at, arc-at, touches}
 use Rattle.lists.specs.Walks.{column, Reads, steps}
 use Rattle.rules.proofs.Lists.{keep-length}
 use Rattle.graph.proofs.Standing.{within-pool}

@@ -1,11 +1,11 @@
 -- Answers and counts are written one after the other.
 use mathlib.Core.Path.{_≡_, refl, sym, _∙_, ap}
-use mathlib.Core.List.{List, [], _∷_, _++_, map, append-nil, append-assoc, map-append}
-use Prim.Native.Nat.{ℕ, suc, _+_, _≤_, _<_}
+use mathlib.Core.List.{List, [], _∷_, _++_, append-nil, append-assoc}
+use Prim.Native.Nat.{ℕ, _+_, _≤_, _<_}
 use native.Mathlib.Numerals.{add-one}
 use native.Mathlib.Omega.{arith}
-use lib.ListN.{length, getD, set, drop, length-append, length-map, drop-of-length-le}
-use lib.Seq.{drop-cons, set-at}
+use lib.ListN.{length, getD, set, drop, length-append, drop-of-length-le}
+use lib.Seq.{drop-cons}
 use Rattle.rules.specs.Lists.{over}
 use Rattle.rules.proofs.Prefixes.{column-next}
 use Rattle.rules.specs.Graph.{Arc}
@@ -21,6 +21,11 @@ use Rattle.searches.specs.Answers.{Written}
 pub none-written : {answers counts : List ℕ} → Written answers counts answers counts []
 unfolding over
 none-written = record { answers-are = refl; counts-are = refl }
+
+-- the avoided node by another name
+pub avoiding : (g : List Arc) {avoid avoid′ : ℕ} (limit : ℕ) (targets sums : List ℕ) (s : Search) {answers counts answers′ counts′ : List ℕ} → avoid ≡ avoid′ →
+    Written answers counts answers′ counts′ (ask-each g avoid limit targets sums s) → Written answers counts answers′ counts′ (ask-each g avoid′ limit targets sums s)
+avoiding g limit targets sums s e written = rw e at written
 
 -- the next target and sum
 each-next : (g : List Arc) (avoid limit : ℕ) (ts xs : List ℕ) (k : ℕ) (s : Search) → k < length ts → length xs ≡ length ts →

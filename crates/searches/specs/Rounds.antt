@@ -3,12 +3,12 @@
 use mathlib.Core.Bool.{true}
 use mathlib.Core.List.{List, foldl}
 use mathlib.Core.Path.{_≡_}
-use Prim.Native.Nat.{ℕ, _+_, _*_, _^_, _<_, _≤_}
+use Prim.Native.Nat.{ℕ, _+_, _*_, _<_, _≤_}
 use lib.ListN.{length}
 use Rattle.rules.specs.Build.{graph-of}
 use Rattle.rules.specs.Numbers.{maxWeight}
 use Rattle.rules.specs.Columns.{Links}
-use Rattle.rules.specs.Graph.{Arc, outs, ins}
+use Rattle.rules.specs.Graph.{outs, ins}
 use Rattle.rules.specs.Search.{Search, init}
 use Rattle.rules.specs.Lists.{Decides}
 use Rattle.graph.specs.declared.preparation_graph.Pool.{Pool}

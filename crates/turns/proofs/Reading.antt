@@ -1,25 +1,24 @@
 -- What a turn reads of a node's entries, on either side, in tables that keep the rules.
 use mathlib.Core.Bool.{Bool, true, false, _||_}
 use mathlib.Core.List.{List, [], _∷_, map, List·Memᴰ·head, List·Memᴰ·tail}
-use mathlib.Core.Path.{_≡_, refl, sym, ap, _∙_}
-use Prim.Native.Nat.{ℕ, zero, suc, _+_, _*_, _-_, _^_, _<_, _≤_}
+use mathlib.Core.Path.{_≡_, refl, ap}
+use Prim.Native.Nat.{ℕ, suc, _+_, _<_, _≤_}
 use native.Mathlib.Numerals.{add-one}
 use native.Mathlib.Omega.{arith}
 use lib.Dec.{ltb}
 use lib.ListN.{length, getD}
-use Rattle.rules.specs.Numbers.{maxNodes, maxWeight, invalid}
+use Rattle.rules.specs.Numbers.{maxWeight, invalid}
 use Rattle.rules.specs.Lists.{any, range, In}
 use Rattle.rules.specs.Columns.{Table, Entry, Hierarchy, Side, opposite, table, entry, rank, begin, places, entries, room}
-use Rattle.rules.specs.TableRules.{used, TableRules}
+use Rattle.rules.specs.TableRules.{TableRules}
 use Rattle.rules.specs.Heap.{Item}
-use Rattle.rules.specs.Query.{Label, Half, stalls}
+use Rattle.rules.specs.Query.{stalls}
 use Rattle.rules.proofs.Prefixes.{in-range}
 use Rattle.walks.proofs.Places.{place-entry, place-used, places-within, in-places}
 use Rattle.tables.specs.Shapes.{Shape}
-use Rattle.tables.proofs.Entries.{getD-any, read, entry-read, even-columns}
+use Rattle.tables.proofs.Entries.{getD-any, entry-read, even-columns}
 use Rattle.tables.proofs.Check.{shape-of}
-use Rattle.halves.specs.Labels.{seen, label-at, half}
-use Rattle.halves.specs.Promises.{Reads}
+use Rattle.halves.specs.Labels.{seen, half}
 use Rattle.halves.proofs.Labels.{label-in}
 use Rattle.halves.proofs.Relaxing.{range-on, range-done}
 

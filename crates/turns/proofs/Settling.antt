@@ -1,8 +1,8 @@
 -- A node is settled: its label stays while its entries are offered along.
-use mathlib.Core.Bool.{true, false}
+use mathlib.Core.Bool.{false}
 use mathlib.Core.List.{List}
-use mathlib.Core.Path.{_≡_, refl, sym, ap, _∙_}
-use Prim.Native.Nat.{ℕ, _+_, _*_, _-_, _^_, _<_, _≤_}
+use mathlib.Core.Path.{_≡_, sym, ap, _∙_}
+use Prim.Native.Nat.{ℕ, _+_, _-_, _<_, _≤_}
 use native.Mathlib.Decide.{decLt}
 use native.Mathlib.Omega.{arith}
 use lib.Dec.{ltb}
@@ -11,12 +11,12 @@ use borrow.Author.Tests.{lt-ltb, le-ltb, ltb-true, ltb-false}
 use Rattle.rules.specs.Numbers.{noWeight}
 use Rattle.rules.specs.Lists.{range}
 use Rattle.rules.specs.Columns.{Table}
-use Rattle.rules.specs.Query.{Best, improve, Label, no-label, Half, relax, mark-settled}
+use Rattle.rules.specs.Query.{Best, improve, Label, no-label, Half, mark-settled}
 use Rattle.rules.proofs.Cases.{on-test}
-use Rattle.heap.specs.Items.{pair, items}
-use Rattle.query_laws.proofs.Offers.{weight-at, falls, after-relax}
+use Rattle.heap.specs.Items.{pair}
+use Rattle.query_laws.proofs.Offers.{falls, after-relax}
 use Rattle.halves.specs.Labels.{stamp, seen, half, put-settled}
-use Rattle.halves.specs.Promises.{Relaxing, Reads, Relaxes}
+use Rattle.halves.specs.Promises.{Reads, Relaxes}
 use Rattle.halves.proofs.Labels.{label-in, half-settled}
 use Rattle.turns.specs.Turning.{best, Settling, Settles}
 

@@ -2,32 +2,29 @@
 use mathlib.Core.Bool.{Bool, true, false}
 use mathlib.Core.List.{List, [], _∷_}
 use mathlib.Core.Path.{_≡_, refl, sym, ap, _∙_}
-use Prim.Native.Nat.{ℕ, zero, suc, _+_, _*_, _-_, _^_, _<_, _≤_}
-use native.Mathlib.Numerals.{add-one}
+use Prim.Native.Nat.{ℕ, suc, _+_, _*_, _-_, _^_, _<_, _≤_}
 use native.Mathlib.Omega.{arith}
 use lib.Dec.{ltb}
 use lib.ListN.{length, getD}
-use borrow.Author.Tests.{ltb-false}
 use Rattle.rules.specs.Numbers.{maxNodes, maxWeight, noWeight}
 use Rattle.rules.specs.Lists.{range}
 use Rattle.rules.specs.Heap.{Item}
-use Rattle.rules.specs.Columns.{Table, Hierarchy, Side, opposite, table, entry, rank, begin, places, entries}
-use Rattle.rules.specs.TableRules.{used, TableRules}
-use Rattle.rules.specs.Query.{End, Best, improve, Label, Half, with-heap, stalls, relax, mark-settled, settle, Turned, turn}
+use Rattle.rules.specs.Columns.{Hierarchy, Side, opposite, table, rank, begin, places, entries}
+use Rattle.rules.specs.Query.{Best, improve, Label, Half, with-heap, stalls, settle, turn}
 use Rattle.walks.proofs.Places.{places-length}
-use Rattle.query_laws.proofs.State.{Sound}
-use Rattle.query_laws.proofs.Taken.{taken-item, item-at-most, pass-settled, pass-heavy, pass-stalled, fewer-unsettled}
+use Rattle.query_laws.specs.Sound.{Sound}
+use Rattle.query_laws.proofs.Taken.{taken-item, item-at-most, pass-settled, pass-stalled, fewer-unsettled}
 use Rattle.query_laws.proofs.Turns.{turn-settled, turn-heavy, turn-stalled, turn-settles}
-use Rattle.heap.specs.Items.{pair, items, sorted}
+use Rattle.heap.specs.Items.{items, sorted}
 use Rattle.heap.specs.Shape.{Ordered}
-use Rattle.heap.specs.Promises.{Holds, Popped}
+use Rattle.heap.specs.Promises.{Popped}
 use Rattle.heap.proofs.Laws.{holds-size, empty-sorted}
 use Rattle.tables.proofs.Entries.{even-columns}
 use Rattle.tables.proofs.Check.{shape-of}
-use Rattle.halves.specs.Labels.{stamp, seen, label-at, settled-at, half}
-use Rattle.halves.specs.Promises.{Relaxing, Reads}
+use Rattle.halves.specs.Labels.{stamp, seen, half}
+use Rattle.halves.specs.Promises.{Reads}
 use Rattle.halves.proofs.Labels.{label-in, settled-in}
-use Rattle.turns.specs.Turning.{best, Settling, Settles, View, Turning, Turns}
+use Rattle.turns.specs.Turning.{best, Settling, Settles, Turning, Turns}
 use Rattle.turns.proofs.Reading.{rank-read, rank-below, starts-room, from-read, to-read, Seen, seen-entry, stretch-end, lower-by, stall-scan}
 
 module _ (n : ℕ) (ranks starts neighbours weights ts tm tw labels heap₀ facing : List ℕ) (base len₀ : ℕ) (b : Best)
@@ -273,17 +270,18 @@ module _ (n : ℕ) (ranks starts neighbours weights ts tm tw labels heap₀ faci
             long = even-columns n (table h s) (shape-of n h s (t .rules))
 
         -- the node is settled
-        pub done-settles : scanned ≡ false → (labels′ heap″ : List ℕ) (k : ℕ) →
-            Settles neighbours weights labels heap′ labels′ heap″ base (len - 1) k (i .node) (i .weight) from to →
+        pub done-settles : scanned ≡ false → {now : List ℕ} → now ≡ labels → (labels′ heap″ : List ℕ) (k : ℕ) →
+            Settles neighbours weights now heap′ labels′ heap″ base (len - 1) k (i .node) (i .weight) from to →
             (y : Half) → ((v : ℕ) → v < n → y .label v .weight ≡ seen facing base v .weight) →
             turn h s y b x₀ (x₀ .heap) ≡
             record { half = half n base labels′ heap″ k; best = improve (i .weight + seen facing base (i .node) .weight) (i .node) b }
         unfolding half with-heap settle places
-        done-settles clear labels′ heap″ k a y agrees =
+        done-settles clear same labels′ heap″ k a y agrees =
+            let settles = rw same at a in
             let reads = own-reads (i .node) node-below in
             let e = from-is (i .node) node-below in
             let f = to-is (i .node) node-below in
-            let is = rw (e, f) at (a .half-is n (table h s) node-below (rw (e, f) reads)) in
+            let is = rw (e, f) at (settles .half-is n (table h s) node-below (rw (e, f) reads)) in
             from-start y
             ∙ turn-settles h s y b x₀ i q (own-settled false yet) light (sym scan-is ∙ clear)
             ∙ λ j. record { half = sym is j; best = improve (i .weight + agrees (i .node) node-below j) (i .node) b }

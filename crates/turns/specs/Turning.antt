@@ -7,10 +7,10 @@ use Rattle.rules.specs.Lists.{range}
 use Rattle.rules.specs.Numbers.{noWeight}
 use Rattle.rules.specs.Columns.{Table, Hierarchy, Side, opposite, table}
 use Rattle.rules.specs.TableRules.{used, TableRules}
-use Rattle.rules.specs.Query.{End, Best, Half, relax, mark-settled, Turned, turn}
+use Rattle.rules.specs.Query.{End, Best, Half, relax, mark-settled, turn}
 use Rattle.heap.specs.Items.{pair, items}
 use Rattle.heap.specs.Shape.{Ordered}
-use Rattle.query_laws.proofs.State.{Sound}
+use Rattle.query_laws.specs.Sound.{Sound}
 use Rattle.halves.specs.Labels.{seen, half}
 use Rattle.halves.specs.Promises.{Relaxing, Reads}
 use Rattle.turns.specs.declared.Best.{Best as Held}

@@ -1,25 +1,26 @@
 -- What the numbers of a used entry say, as the code reads them, and how what it opens into is put together.
-use mathlib.Core.Bool.{true, false, _&&_}
+use mathlib.Core.Bool.{true, false}
 use mathlib.Core.List.{List, [], _∷_, _++_}
 use mathlib.Core.Logic.{inl, inr}
 use mathlib.Core.Path.{_≡_, refl, sym, ap, _∙_}
 use Prim.Native.Nat.{ℕ, zero, suc, _+_, _-_, _^_, _≤_, _<_}
-use native.Mathlib.Nat.{add-zero, sub-zero}
+use native.Mathlib.Nat.{sub-zero}
 use native.Mathlib.Omega.{arith}
-use lib.Dec.{eqb}
 use lib.ListN.{length, getD, take, set, length-append}
 use lib.Seq.{set-out}
 use borrow.Author.Tests.{eq-eqb, ne-eqb}
 use Rattle.rules.specs.Numbers.{invalid}
-use Rattle.rules.specs.Columns.{Table, Entry, Hierarchy, Side, forward, backward, table, entry, rank, room}
-use Rattle.rules.specs.TableRules.{used, tail-of, Opens, EntryRules, TableRules}
+use Rattle.rules.specs.Lists.{written}
+use Rattle.rules.specs.Columns.{Hierarchy, Side, forward, backward, table, entry, rank, room}
+use Rattle.rules.specs.TableRules.{used, tail-of, Opens, EntryRules}
 use Rattle.rules.specs.Unpack.{is-shortcut, unpacked}
+use Rattle.rules.proofs.Prefixes.{written-parts}
 use Rattle.walks.proofs.Places.{used-entry}
 use Rattle.query_laws.proofs.Unpacking.{shortcut-opens, unpacked-shortcut, unpacked-plain}
 use Rattle.tables.specs.Shapes.{Shape}
 use Rattle.tables.proofs.Entries.{read, entry-read}
 use Rattle.tables.proofs.Check.{shape-of}
-use Rattle.unpacking.specs.Written.{written, Used, Unpacking, Put}
+use Rattle.unpacking.specs.Written.{Used, Unpacking, Put}
 
 -- Lists.
 take-parts : (limit : ℕ) (xs ys : List ℕ) → take limit (xs ++ ys) ≡ take limit xs ++ take (limit - length (take limit xs)) ys
@@ -35,13 +36,6 @@ take-at-most zero [] = omega arith
 take-at-most zero (x ∷ xs) = omega arith
 take-at-most (suc limit) [] = omega arith
 take-at-most (suc limit) (x ∷ xs) = omega (arith, take-at-most limit xs)
-
-written-parts : (path : List ℕ) (at : ℕ) (xs ys : List ℕ) → written path at (xs ++ ys) ≡ written (written path at xs) (at + length xs) ys
-unfolding written
-written-parts path at [] ys = rw (add-zero at)
-written-parts path at (x ∷ xs) ys =
-    let same : suc at + length xs ≡ at + suc (length xs) = omega arith in
-    rw (← same) (written-parts (set path at x) (suc at) xs ys)
 
 -- Nodes are put in two parts, one after the other.
 module _ (nodes first then : List ℕ) (joined : nodes ≡ first ++ then) (at limit : ℕ) (fits : at + limit < 2 ^ 64) where

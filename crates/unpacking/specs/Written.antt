@@ -1,16 +1,12 @@
 -- Nodes written into a path from a place on, where there is room for them.
-use mathlib.Core.List.{List, [], _∷_}
+use mathlib.Core.List.{List}
 use mathlib.Core.Path.{_≡_}
-use Prim.Native.Nat.{ℕ, suc, _+_, _^_, _<_}
-use lib.ListN.{length, take, set}
+use Prim.Native.Nat.{ℕ, _+_, _^_, _<_}
+use lib.ListN.{length, take}
+use Rattle.rules.specs.Lists.{written}
 use Rattle.rules.specs.Columns.{Hierarchy, Side, table}
 use Rattle.rules.specs.TableRules.{used, TableRules}
 use Rattle.rules.specs.Unpack.{unpacked}
-
--- beyond the end a store changes nothing
-unfoldable pub written : List ℕ → ℕ → List ℕ → List ℕ
-written path at [] = path
-written path at (x ∷ xs) = written (set path at x) (suc at) xs
 
 -- a used entry of tables that keep the rules
 pub record Used (n : ℕ) (h : Hierarchy) (s : Side) (e : ℕ) : Type 0 where

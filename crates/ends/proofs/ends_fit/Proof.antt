@@ -1,5 +1,4 @@
 -- Each return is a test of `ends-fit`.
-use borrow.Author.Needs.{needs}
 use Rattle.ends.proofs.Steps.{no-ends, too-many, some-ends}
 use Rattle.ends.proofs.ends_fit.Statement.{statement}
 use Rattle.ends.proofs.ends_fit.Tie as tie

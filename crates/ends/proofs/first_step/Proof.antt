@@ -18,6 +18,10 @@ Inv-loop sources source-offsets targets target-offsets best₀ k₀ best k =
 abbrev μ-loop : tie.MeasureT-loop
 μ-loop sources source-offsets targets target-offsets best₀ k₀ best k = length sources - k
 
+-- Back from a place of the body to an earlier one.
+abbrev in-loop→start : tie.In-loop Inv-loop μ-loop → tie.Start Inv-loop μ-loop
+in-loop→start c = c .before .before .before .before .before .before
+
 loop-holds : tie.Need-loop-holds Inv-loop μ-loop
 loop-holds c = refl
 
@@ -28,13 +32,13 @@ shared-slice-read-coincide-all : tie.Need-shared-slice-read-coincide-all Inv-loo
 shared-slice-read-coincide-all c = search needs
 
 mul-coincide-all-2 : tie.Need-mul-coincide-all-2 Inv-loop μ-loop
-mul-coincide-all-2 c = omega (arith, c .before .before .before .before .before .before .before .pre .0 .even)
+mul-coincide-all-2 c = omega (arith, (in-loop→start (c .before)) .pre .0 .even)
 
 shared-slice-read-coincide-all-2 : tie.Need-shared-slice-read-coincide-all-2 Inv-loop μ-loop
-shared-slice-read-coincide-all-2 c = omega (arith, c .before .before .before .before .before .before .before .before .pre .0 .even)
+shared-slice-read-coincide-all-2 c = omega (arith, (in-loop→start (c .before .before)) .pre .0 .even)
 
 coincide-all-requires : tie.Need-coincide-all-requires Inv-loop μ-loop
-coincide-all-requires c κs = (c .before .before .before .before .before .before .before .before .pre .0 .small (c .before .before .before .loop .k) (c .before .before .loop-test .taken), c .before .before .before .before .before .before .before .before .pre .1)
+coincide-all-requires c κs = ((in-loop→start (c .before .before)) .pre .0 .small (c .before .before .before .loop .k) (c .before .before .loop-test .taken), (in-loop→start (c .before .before)) .pre .1)
 
 add-k : tie.Need-add-k Inv-loop μ-loop
 add-k c = search needs
@@ -43,7 +47,7 @@ loop-less : tie.Need-loop-less Inv-loop μ-loop
 loop-less c = search needs
 
 loop-again : tie.Need-loop-again Inv-loop μ-loop
-loop-again c = next-source _ _ (c .before .before .before .before .before .before .before .before .before .pre .0) _ _ _ _ (c .before .before .before .before .loop .inv) (c .before .before .before .loop-test .taken) _ (c .coincide-all .ensures)
+loop-again c = next-source _ _ ((in-loop→start (c .before .before .before)) .pre .0) _ _ _ _ (c .before .before .before .before .loop .inv) (c .before .before .before .loop-test .taken) _ (c .coincide-all .ensures)
 
 returns : tie.Need-returns Inv-loop μ-loop
 returns c = last-source _ _ (c .before .before .before .before .before .before .pre .0) _ _ _ _ (c .before .loop .inv) (c .loop-test .left)

@@ -1,5 +1,4 @@
 -- Each return is a case of `offset-fits`.
-use borrow.Author.Needs.{needs}
 use Rattle.ends.proofs.Steps.{fitting, marked}
 use Rattle.ends.proofs.offset_fits.Statement.{statement}
 use Rattle.ends.proofs.offset_fits.Tie as tie

@@ -4,6 +4,13 @@ use borrow.Author.Needs.{needs}
 use Rattle.entries.proofs.lay_rank.Statement.{statement}
 use Rattle.entries.proofs.lay_rank.Tie as tie
 
+-- Back from a place of the body to an earlier one.
+abbrev known5→start : tie.After-slice-known5 → tie.Start
+known5→start c = c .before .before .before .before .before .before .before
+
+abbrev centres→write-entries : tie.After-centres → tie.After-write-entries
+centres→write-entries c = c .before .before .before .before .before .before .before
+
 cast-starts : tie.Need-cast-starts
 cast-starts c = search needs
 
@@ -62,7 +69,7 @@ part-write-entries-end-4 : tie.Need-part-write-entries-end-4
 part-write-entries-end-4 c = search needs
 
 write-entries-requires : tie.Need-write-entries-requires
-write-entries-requires c κs = let p = c .before .before .before .before .before .before .before .before .before .before .before .pre in (p .0, p .1, writable-onward (p .2))
+write-entries-requires c κs = let p = (known5→start (c .before .before .before .before)) .pre in (p .0, p .1, writable-onward (p .2))
 
 same-length : tie.Need-same-length
 same-length c = search needs
@@ -80,7 +87,7 @@ same-length-5 : tie.Need-same-length-5
 same-length-5 c = search needs
 
 returns : tie.Need-returns
-returns c = λ nodes list p ls l lent is rank count node arcs. rank-laid p ls l lent is rank count node arcs _ _ _ _ (c .before .before .before .before .before .before .before .before .write-entries .ensures nodes list (writable-onward p))
+returns c = λ nodes list p ls l lent is rank count node arcs. rank-laid p ls l lent is rank count node arcs _ _ _ _ ((centres→write-entries (c .before)) .write-entries .ensures nodes list (writable-onward p))
 
 pub lay-rank-spec : {M : Type 1} → statement M
 lay-rank-spec =

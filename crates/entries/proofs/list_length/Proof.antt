@@ -1,6 +1,5 @@
 -- The invariant: what was counted and what is left come to the whole.
 use mathlib.Core.List.{List}
-use mathlib.Core.Path.{refl}
 use Prim.Native.Nat.{ℕ, _+_, _*_, _≤_, _<_}
 use native.Mathlib.Omega.{arith}
 use lib.ListN.{length}

@@ -20,41 +20,51 @@ abbrev μ-loop : tie.MeasureT-loop
 μ-loop count ranks fwd-starts fwd-neighbours bwd-starts bwd-neighbours tails heads ins₀ outs₀ e₀ ins outs e =
     count - e
 
+-- Back from a place of the body to an earlier one.
+abbrev shared-known7→start : tie.After-shared-slice-known7 Inv-loop μ-loop → tie.Start Inv-loop μ-loop
+shared-known7→start c = c .before .before .before .before .before .before .before
+
+abbrev at-loop→start : tie.At-loop Inv-loop μ-loop → tie.Start Inv-loop μ-loop
+at-loop→start c = shared-known7→start (c .before .before .before)
+
+abbrev open-entry→start : tie.After-open-entry Inv-loop μ-loop → tie.Start Inv-loop μ-loop
+open-entry→start c = at-loop→start (c .before .before .before .before .before)
+
 loop-holds : tie.Need-loop-holds Inv-loop μ-loop
 loop-holds c = (refl, refl, omega arith, λ k b s p. none-finished b s _ _)
 
 mul-open-entry : tie.Need-mul-open-entry Inv-loop μ-loop
-mul-open-entry c = let p = c .before .before .before .before .before .before .before .before .before .before .before .pre .3 in omega (arith, c .loop-test .taken, p .ins-room, c .before .loop .inv .0)
+mul-open-entry c = let p = (at-loop→start (c .before)) .pre .3 in omega (arith, c .loop-test .taken, p .ins-room, c .before .loop .inv .0)
 
 slice-read-open-entry : tie.Need-slice-read-open-entry Inv-loop μ-loop
-slice-read-open-entry c = let p = c .before .before .before .before .before .before .before .before .before .before .before .before .pre .3 in omega (arith, c .before .loop-test .taken, p .ins-room, c .before .before .loop .inv .0)
+slice-read-open-entry c = let p = (at-loop→start (c .before .before)) .pre .3 in omega (arith, c .before .loop-test .taken, p .ins-room, c .before .before .loop .inv .0)
 
 mul-open-entry-2 : tie.Need-mul-open-entry-2 Inv-loop μ-loop
-mul-open-entry-2 c = let p = c .before .before .before .before .before .before .before .before .before .before .before .before .pre .3 in omega (arith, c .before .loop-test .taken, p .tails-room)
+mul-open-entry-2 c = let p = (at-loop→start (c .before .before)) .pre .3 in omega (arith, c .before .loop-test .taken, p .tails-room)
 
 shared-slice-read-open-entry : tie.Need-shared-slice-read-open-entry Inv-loop μ-loop
-shared-slice-read-open-entry c = let p = c .before .before .before .before .before .before .before .before .before .before .before .before .before .pre .3 in omega (arith, c .before .before .loop-test .taken, p .tails-room)
+shared-slice-read-open-entry c = let p = (at-loop→start (c .before .before .before)) .pre .3 in omega (arith, c .before .before .loop-test .taken, p .tails-room)
 
 mul-open-entry-3 : tie.Need-mul-open-entry-3 Inv-loop μ-loop
-mul-open-entry-3 c = let p = c .before .before .before .before .before .before .before .before .before .before .before .before .before .pre .3 in omega (arith, c .before .before .loop-test .taken, p .heads-room)
+mul-open-entry-3 c = let p = (at-loop→start (c .before .before .before)) .pre .3 in omega (arith, c .before .before .loop-test .taken, p .heads-room)
 
 shared-slice-read-open-entry-2 : tie.Need-shared-slice-read-open-entry-2 Inv-loop μ-loop
-shared-slice-read-open-entry-2 c = let p = c .before .before .before .before .before .before .before .before .before .before .before .before .before .before .pre .3 in omega (arith, c .before .before .before .loop-test .taken, p .heads-room)
+shared-slice-read-open-entry-2 c = let p = (at-loop→start (c .before .before .before .before)) .pre .3 in omega (arith, c .before .before .before .loop-test .taken, p .heads-room)
 
 open-entry-requires : tie.Need-open-entry-requires Inv-loop μ-loop
-open-entry-requires c κs = let q = c .before .before .before .before .before .before .before .before .before .before .before .before .before .before .pre in let inv = c .before .before .before .before .loop .inv in let p = q .3 in let x = inv .3 (q .0) (q .1) (q .2) p in (q .0, q .1, q .2, _, entry-at-hand p x (c .before .before .before .loop-test .taken))
+open-entry-requires c κs = let q = (at-loop→start (c .before .before .before .before)) .pre in let inv = c .before .before .before .before .loop .inv in let p = q .3 in let x = inv .3 (q .0) (q .1) (q .2) p in (q .0, q .1, q .2, _, entry-at-hand p x (c .before .before .before .loop-test .taken))
 
 mul-ins : tie.Need-mul-ins Inv-loop μ-loop
-mul-ins c = let p = c .before .before .before .before .before .before .before .before .before .before .before .before .before .before .before .pre .3 in omega (arith, c .before .before .before .before .loop-test .taken, p .ins-room, c .before .before .before .before .before .loop .inv .0)
+mul-ins c = let p = (open-entry→start c) .pre .3 in omega (arith, c .before .before .before .before .loop-test .taken, p .ins-room, c .before .before .before .before .before .loop .inv .0)
 
 slice-write-ins : tie.Need-slice-write-ins Inv-loop μ-loop
-slice-write-ins c = let p = c .before .before .before .before .before .before .before .before .before .before .before .before .before .before .before .pre .3 in omega (arith, c .before .before .before .before .loop-test .taken, p .ins-room, c .before .before .before .before .before .loop .inv .0)
+slice-write-ins c = let p = (open-entry→start c) .pre .3 in omega (arith, c .before .before .before .before .loop-test .taken, p .ins-room, c .before .before .before .before .before .loop .inv .0)
 
 mul-outs : tie.Need-mul-outs Inv-loop μ-loop
-mul-outs c = let p = c .before .before .before .before .before .before .before .before .before .before .before .before .before .before .before .pre .3 in omega (arith, c .before .before .before .before .loop-test .taken, p .outs-room, c .before .before .before .before .before .loop .inv .1)
+mul-outs c = let p = (open-entry→start c) .pre .3 in omega (arith, c .before .before .before .before .loop-test .taken, p .outs-room, c .before .before .before .before .before .loop .inv .1)
 
 slice-write-outs : tie.Need-slice-write-outs Inv-loop μ-loop
-slice-write-outs c = let p = c .before .before .before .before .before .before .before .before .before .before .before .before .before .before .before .pre .3 in omega (arith, c .before .before .before .before .loop-test .taken, p .outs-room, c .before .before .before .before .before .loop .inv .1)
+slice-write-outs c = let p = (open-entry→start c) .pre .3 in omega (arith, c .before .before .before .before .loop-test .taken, p .outs-room, c .before .before .before .before .before .loop .inv .1)
 
 add-e : tie.Need-add-e Inv-loop μ-loop
 add-e c = omega (arith, c .before .before .before .before .loop-test .taken)

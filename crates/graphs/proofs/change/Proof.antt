@@ -8,6 +8,13 @@ use Rattle.graphs.proofs.change.Lts as lts
 use Rattle.graph.proofs.preparation_graph.add_or_reduce_edge.Reads as add-or-reduce-edge-reads
 use Rattle.graph.proofs.preparation_graph.disconnect.Reads as disconnect-reads
 
+-- Back from a place of the body to an earlier one.
+abbrev at-match-keys2→add-or-reduce-edge : tie.At-match-keys2 → tie.After-add-or-reduce-edge
+at-match-keys2→add-or-reduce-edge c = c .before .before .before .before .before .before .before
+
+abbrev at-match-keys1→add-or-reduce-edge : tie.At-match-keys1 → tie.After-add-or-reduce-edge
+at-match-keys1→add-or-reduce-edge c = c .before .before .before .before .before .before .before
+
 disconnect-requires : tie.Need-disconnect-requires
 disconnect-requires c κs = search needs
 
@@ -30,33 +37,37 @@ enum-told : tie.Need-enum-told
 enum-told c = search needs
 
 same-length-3 : tie.Need-same-length-3
-same-length-3 c = c .before .before .before .before .before .before .before .before .add-or-reduce-edge .kept .0
+same-length-3 c = (at-match-keys2→add-or-reduce-edge (c .before)) .add-or-reduce-edge .kept .0
 
 same-length-4 : tie.Need-same-length-4
-same-length-4 c = c .before .before .before .before .before .before .before .before .add-or-reduce-edge .kept .1 .0
+same-length-4 c = (at-match-keys2→add-or-reduce-edge (c .before)) .add-or-reduce-edge .kept .1 .0
 
 same-length-5 : tie.Need-same-length-5
-same-length-5 c = c .before .before .before .before .before .before .before .before .add-or-reduce-edge .kept .1 .1 .0
+same-length-5 c = (at-match-keys2→add-or-reduce-edge (c .before)) .add-or-reduce-edge .kept .1 .1 .0
 
 returns-2 : tie.Need-returns-2
-returns-2 c = λ n g x.
-    let a = c .before .before .before .before .before .before .before .before .add-or-reduce-edge .ensures n g (addable x (c .before .before .before .before .before .before .before .before .before .before .before .before .if1 .left)) in
+returns-2 c =
+    let else1 = (at-match-keys2→add-or-reduce-edge (c .before)) .before .before .before .before in
+    λ n g x.
+    let a = (at-match-keys2→add-or-reduce-edge (c .before)) .add-or-reduce-edge .ensures n g (addable x (else1 .if1 .left)) in
     let off = c .enum-told .given .1 in
-    is-refused (with-head _ g (c .before .before .before .before .before .before .before .before .before .before .before .before .if1 .left)) (a .full off) (still (a .same off) (x .hold))
+    is-refused (with-head _ g (else1 .if1 .left)) (a .full off) (still (a .same off) (x .hold))
 
 same-length-6 : tie.Need-same-length-6
-same-length-6 c = c .before .before .before .before .before .before .before .before .before .add-or-reduce-edge .kept .0
+same-length-6 c = (at-match-keys1→add-or-reduce-edge (c .before .before)) .add-or-reduce-edge .kept .0
 
 same-length-7 : tie.Need-same-length-7
-same-length-7 c = c .before .before .before .before .before .before .before .before .before .add-or-reduce-edge .kept .1 .0
+same-length-7 c = (at-match-keys1→add-or-reduce-edge (c .before .before)) .add-or-reduce-edge .kept .1 .0
 
 same-length-8 : tie.Need-same-length-8
-same-length-8 c = c .before .before .before .before .before .before .before .before .before .add-or-reduce-edge .kept .1 .1 .0
+same-length-8 c = (at-match-keys1→add-or-reduce-edge (c .before .before)) .add-or-reduce-edge .kept .1 .1 .0
 
 returns-3 : tie.Need-returns-3
-returns-3 c = λ n g x.
-    let a = c .before .before .before .before .before .before .before .before .before .add-or-reduce-edge .ensures n g (addable x (c .before .before .before .before .before .before .before .before .before .before .before .before .before .if1 .left)) in
-    goes-through (with-head _ g (c .before .before .before .before .before .before .before .before .before .before .before .before .before .if1 .left)) (a .came _ (c .before .added .given .1) .stands)
+returns-3 c =
+    let else1 = (at-match-keys1→add-or-reduce-edge (c .before .before)) .before .before .before .before in
+    λ n g x.
+    let a = (at-match-keys1→add-or-reduce-edge (c .before .before)) .add-or-reduce-edge .ensures n g (addable x (else1 .if1 .left)) in
+    goes-through (with-head _ g (else1 .if1 .left)) (a .came _ (c .before .added .given .1) .stands)
 
 pub change-spec : {M : Type 1} → statement M
 change-spec =

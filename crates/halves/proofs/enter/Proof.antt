@@ -14,6 +14,13 @@ Inv-loop nodes offsets labels₀ heap₀ base len₀ k₀ labels heap len k = (g
 abbrev μ-loop : tie.MeasureT-loop
 μ-loop nodes offsets labels₀ heap₀ base len₀ k₀ labels heap len k = length nodes - k
 
+-- Back from a place of the body to an earlier one.
+abbrev in-loop→start : tie.In-loop Inv-loop μ-loop → tie.Start Inv-loop μ-loop
+in-loop→start c = c .before .before .before .before .before .before
+
+abbrev offer→in-loop : tie.After-offer Inv-loop μ-loop → tie.In-loop Inv-loop μ-loop
+offer→in-loop c = c .before .before .before .before .before .before
+
 loop-holds : tie.Need-loop-holds Inv-loop μ-loop
 loop-holds c = (c .before .before .before .before .pre, going-first _ _ _ _ _ (c .before .before .before .before .pre))
 
@@ -27,10 +34,10 @@ cast-offer : tie.Need-cast-offer Inv-loop μ-loop
 cast-offer c = omega (arith, c .shared-slice-known3 .given (c .before .before .before .before .loop .k))
 
 mul-offer-2 : tie.Need-mul-offer-2 Inv-loop μ-loop
-mul-offer-2 c = omega (arith, c .before .before .before .before .before .before .before .before .before .pre .even)
+mul-offer-2 c = omega (arith, (in-loop→start (c .before .before .before)) .pre .even)
 
 shared-slice-read-offer-2 : tie.Need-shared-slice-read-offer-2 Inv-loop μ-loop
-shared-slice-read-offer-2 c = omega (arith, c .before .before .before .before .before .before .before .before .before .before .pre .even)
+shared-slice-read-offer-2 c = omega (arith, (in-loop→start (c .before .before .before .before)) .pre .even)
 
 mul-offer-3 : tie.Need-mul-offer-3 Inv-loop μ-loop
 mul-offer-3 c = search needs
@@ -55,9 +62,9 @@ loop-less c = omega arith
 
 loop-again : tie.Need-loop-again Inv-loop μ-loop
 loop-again c =
-    let l = c .before .before .before .before .before .before .before .before .before .before .before .loop in (
+    let l = (offer→in-loop (c .before .before .before .before)) .before .loop in (
       l .inv .0,
-      going-on _ _ _ _ _ (l .inv .0) _ _ _ _ (l .inv .1) (c .before .before .before .before .before .before .before .before .before .before .loop-test .taken) _ _ _ (c .before .before .before .before .offer .kept .0) (c .before .before .before .before .offer .kept .1 .0)
+      going-on _ _ _ _ _ (l .inv .0) _ _ _ _ (l .inv .1) ((offer→in-loop (c .before .before .before .before)) .loop-test .taken) _ _ _ (c .before .before .before .before .offer .kept .0) (c .before .before .before .before .offer .kept .1 .0)
           (c .before .before .before .before .offer .ensures),
     )
 

@@ -7,6 +7,13 @@ use Rattle.heap.proofs.Ends.{gap-at-front, popped, popped-only}
 use Rattle.heap.proofs.pop.Statement.{statement}
 use Rattle.heap.proofs.pop.Tie as tie
 
+-- Back from a place of the body to an earlier one.
+abbrev sink→then1 : tie.After-sink → tie.Then1
+sink→then1 c = c .before .before .before .before
+
+abbrev rise→load2 : tie.After-rise → tie.After-load2
+rise→load2 c = c .before .before .before .before .before .before
+
 load-requires : tie.Need-load-requires
 load-requires c κs = search needs
 
@@ -23,7 +30,7 @@ sink-requires c κs =
 
 rise-requires : tie.Need-rise-requires
 rise-requires c κs =
-    let s = c .before .before .before .before .before .before .before .before .before .before .before in
+    let s = (sink→then1 (c .before .before .before)) .before .before .before .before in
     let sink = c .before .before .before .sink in (
       omega arith,
       sink .ensures .moved .gap,
@@ -37,8 +44,8 @@ returns : tie.Need-returns
 returns c =
     let rise = c .before .before .rise in
     let sink = c .before .before .before .before .before .before .sink in
-    let last = c .before .before .before .before .before .before .before .before .load2 in
-    let more = c .before .before .before .before .before .before .before .before .before .before in
+    let last = (rise→load2 (c .before .before)) .load2 in
+    let more = (rise→load2 (c .before .before)) .before .before in
     let top = more .before in
     let s = top .before .before .before in
     rw (top .load .ensures)

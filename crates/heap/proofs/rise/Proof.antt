@@ -19,6 +19,10 @@ Inv-loop heap₀ len i x gap₀ heap gap = (gap < len) × Moved heap₀ heap len
 abbrev μ-loop : tie.MeasureT-loop
 μ-loop heap₀ len i x gap₀ heap gap = gap
 
+-- Back from a place of the body to an earlier one.
+abbrev shift→at-loop : tie.After-shift Inv-loop μ-loop → tie.At-loop Inv-loop μ-loop
+shift→at-loop c = c .before .before .before .before .before .before
+
 loop-holds : tie.Need-loop-holds Inv-loop μ-loop
 loop-holds c =
     let s = c .before in
@@ -42,7 +46,7 @@ loop-less c = omega arith
 
 loop-again : tie.Need-loop-again Inv-loop μ-loop
 loop-again c =
-    let l = c .before .before .before .before .before .before .before .before in
+    let l = shift→at-loop (c .before .before) in
     let a = l .before .before .args in
     let up : 0 < l .loop .gap = omega arith in
     let above = item (l .loop .heap) (parent (l .loop .gap)) in

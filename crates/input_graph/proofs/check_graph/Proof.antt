@@ -5,6 +5,10 @@ use Rattle.input_graph.proofs.Rows.{too-many, uneven-heads, uneven-weig
 use Rattle.input_graph.proofs.check_graph.Statement.{statement}
 use Rattle.input_graph.proofs.check_graph.Tie as tie
 
+-- Back from a place of the body to an earlier one.
+abbrev any-bad3→else4 : tie.After-any-bad3 → tie.Else4
+any-bad3→else4 c = c .before .before .before .before .before
+
 -- past the tests of their lengths the columns have one
 even : (c : tie.Else3) →
     let a = c .before .before .before .before .before .before .args in Even (a .tails .now) (a .heads .now) (a .weights .now)
@@ -42,17 +46,17 @@ any-bad-requires-3 c κs = even (c .before .before .before .before .before)
 
 returns-7 : tie.Need-returns-7
 returns-7 c =
-    row-5 _ _ _ _ (c .before .before .before .before .before .before .before .before .before .if1 .left) (even (c .before .before .before .before .before .before .before)) (c .before .before .before .before .before .before .if4 .left)
+    row-5 _ _ _ _ ((any-bad3→else4 (c .before)) .before .before .before .if1 .left) (even ((any-bad3→else4 (c .before)) .before)) ((any-bad3→else4 (c .before)) .if4 .left)
     (sym (c .before .before .before .before .before .any-bad .ensures) ∙ c .before .before .before .before .if5 .left)
     (sym (c .before .before .before .any-bad2 .ensures) ∙ c .before .before .if6 .left)
     (sym (c .before .any-bad3 .ensures) ∙ c .if7 .taken)
 
 ascend-requires : tie.Need-ascend-requires
-ascend-requires c κs = even (c .before .before .before .before .before .before .before)
+ascend-requires c κs = even ((any-bad3→else4 (c .before)) .before)
 
 returns-8 : tie.Need-returns-8
 returns-8 c =
-    no-row _ _ _ _ (c .before .before .before .before .before .before .before .before .before .before .before .if1 .left) (even (c .before .before .before .before .before .before .before .before .before)) (c .before .before .before .before .before .before .before .before .if4 .left)
+    no-row _ _ _ _ ((any-bad3→else4 (c .before .before .before)) .before .before .before .if1 .left) (even ((any-bad3→else4 (c .before .before .before)) .before)) ((any-bad3→else4 (c .before .before .before)) .if4 .left)
     (sym (c .before .before .before .before .before .before .before .any-bad .ensures) ∙ c .before .before .before .before .before .before .if5 .left)
     (sym (c .before .before .before .before .before .any-bad2 .ensures) ∙ c .before .before .before .before .if6 .left)
     (sym (c .before .before .before .any-bad3 .ensures) ∙ c .before .before .if7 .left)
@@ -60,7 +64,7 @@ returns-8 c =
 
 returns-9 : tie.Need-returns-9
 returns-9 c =
-    row-6 _ _ _ _ (c .before .before .before .before .before .before .before .before .before .before .before .if1 .left) (even (c .before .before .before .before .before .before .before .before .before)) (c .before .before .before .before .before .before .before .before .if4 .left)
+    row-6 _ _ _ _ ((any-bad3→else4 (c .before .before .before)) .before .before .before .if1 .left) (even ((any-bad3→else4 (c .before .before .before)) .before)) ((any-bad3→else4 (c .before .before .before)) .if4 .left)
     (sym (c .before .before .before .before .before .before .before .any-bad .ensures) ∙ c .before .before .before .before .before .before .if5 .left)
     (sym (c .before .before .before .before .before .any-bad2 .ensures) ∙ c .before .before .before .before .if6 .left)
     (sym (c .before .before .before .any-bad3 .ensures) ∙ c .before .before .if7 .left)

@@ -10,6 +10,10 @@ use Rattle.lists.proofs.append.Reads as reads
 use Rattle.lists.proofs.append.Lts as lts
 use Rattle.lists.proofs.follow.Reads as follow-reads
 
+-- Back from a place of the body to an earlier one.
+abbrev follow→start : tie.After-follow → tie.Start
+follow→start c = c .before .before .before .before .before .before
+
 mul-end : tie.Need-mul-end
 mul-end c = search needs
 
@@ -75,7 +79,7 @@ same-length-2 c = simp length-set (c .before .before .before .before .follow .ke
 returns : tie.Need-returns
 unfolding append
 returns c =
-    let a = c .before .before .before .before .before .before .before .before .before .before .args in
+    let a = (follow→start (c .before .before .before .before)) .args in
     ap (λ (m : Memory). set-last m (a .side) (a .node) (a .place)) (c .before .before .before .before .follow .ensures)
 
 pub append-spec : {M : Type 1} → statement M

@@ -1,6 +1,6 @@
 -- `find_arc` meets its contract. The loop's invariant: what the walk from `at` on comes upon first is what it would come upon from the
 -- start. The measure is what is left of the walk.
-use mathlib.Core.Path.{_≡_, refl}
+use mathlib.Core.Path.{refl}
 use mathlib.Core.Bool.{Bool}
 use mathlib.Core.List.{List}
 use Prim.Native.Nat.{ℕ, _+_, _*_, _≤_}

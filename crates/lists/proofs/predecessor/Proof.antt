@@ -1,10 +1,10 @@
 -- `predecessor` meets its contract. The loop's invariant: from `at` on the walk goes through the place, and what stands before it,
 -- `before` where it is at `at`, is what stands before it from the start. The measure is what is left of the walk.
-use mathlib.Core.Path.{_≡_, refl}
+use mathlib.Core.Path.{refl}
 use mathlib.Core.List.{List}
-use Prim.Native.Nat.{ℕ, _+_, _*_, _-_, _<_, _≤_}
+use Prim.Native.Nat.{ℕ, _+_, _*_, _≤_}
 use native.Mathlib.Omega.{arith}
-use lib.ListN.{length, getD}
+use lib.ListN.{length}
 use Rattle.rules.specs.Numbers.{invalid}
 use Rattle.rules.specs.Lists.{In}
 use Rattle.lists.specs.Walks.{column, Walk, steps, before as before-in}

@@ -14,6 +14,10 @@ use Rattle.lists.proofs.unlink.Reads as reads
 use Rattle.lists.proofs.unlink.Lts as lts
 use Rattle.lists.proofs.follow.Reads as follow-reads
 
+-- Back from a place of the body to an earlier one.
+abbrev follow→start : tie.After-follow → tie.Start
+follow→start c = c .before .before .before .before .before .before
+
 mul-next : tie.Need-mul-next
 mul-next c = search needs
 
@@ -59,7 +63,7 @@ same-length-2 c = simp length-set (c .before .before .before .before .before .fo
 returns : tie.Need-returns
 unfolding unlink
 returns c =
-    let a = c .before .before .before .before .before .before .before .before .before .before .before .args in
+    let a = (follow→start (c .before .before .before .before .before)) .args in
     rw (eq-eqb (column (a .arcs .now) (3 + a .side) (a .place)) invalid (c .if1 .taken), unlink)
     (ap (λ (m : Memory). set-last m (a .side) (a .node) (a .before)) (c .before .before .before .before .before .follow .ensures))
 
@@ -72,7 +76,7 @@ same-length-4 c = c .before .before .before .before .before .follow .kept .1 .0
 returns-2 : tie.Need-returns-2
 unfolding unlink
 returns-2 c =
-    let a = c .before .before .before .before .before .before .before .before .before .before .before .args in
+    let a = (follow→start (c .before .before .before .before .before)) .args in
     rw (ne-eqb (column (a .arcs .now) (3 + a .side) (a .place)) invalid (c .if1 .left), unlink)
     (c .before .before .before .before .before .follow .ensures)
 

@@ -27,20 +27,42 @@ abbrev μ-loop : tie.MeasureT-loop
 μ-loop arcs₀ weights₀ nodes₀ labels₀ heap₀ pool v tail weight limit work₀ place₀ arcs weights nodes labels heap work place =
     steps (column arcs 3) (length arcs) place
 
+-- Back from a place of the body to an earlier one.
+abbrev at-loop→start : tie.At-loop Inv-loop μ-loop → tie.Start Inv-loop μ-loop
+at-loop→start c = c .before .before .before .before .before .before .before
+
+abbrev handle-pair-arg4→in-loop : tie.After-handle-pair-arg4 Inv-loop μ-loop → tie.In-loop Inv-loop μ-loop
+handle-pair-arg4→in-loop c = c .before .before .before .before .before .before .before
+
+abbrev labels→handle-pair : tie.After-labels Inv-loop μ-loop → tie.After-handle-pair Inv-loop μ-loop
+labels→handle-pair c = c .before .before .before .before .before .before .before
+
+abbrev at-match-keys2→handle-pair : tie.At-match-keys2 Inv-loop μ-loop → tie.After-handle-pair Inv-loop μ-loop
+at-match-keys2→handle-pair c = labels→handle-pair (c .before .before .before .before)
+
+abbrev at-match-keys2→at-loop : tie.At-match-keys2 Inv-loop μ-loop → tie.At-loop Inv-loop μ-loop
+at-match-keys2→at-loop c = (handle-pair-arg4→in-loop ((at-match-keys2→handle-pair c) .before .before)) .before
+
+abbrev at-match-keys1→handle-pair : tie.At-match-keys1 Inv-loop μ-loop → tie.After-handle-pair Inv-loop μ-loop
+at-match-keys1→handle-pair c = labels→handle-pair (c .before .before .before .before)
+
+abbrev at-match-keys1→in-loop : tie.At-match-keys1 Inv-loop μ-loop → tie.In-loop Inv-loop μ-loop
+at-match-keys1→in-loop c = handle-pair-arg4→in-loop ((at-match-keys1→handle-pair c) .before .before)
+
 -- of the graph and the search that are there
 left : (c : tie.At-loop Inv-loop μ-loop) →
-    let a = c .before .before .before .before .before .before .before .args in
+    let a = (at-loop→start c) .args in
     let l = c .loop in
-    let p = c .before .before .before .before .before .before .before .pre in
+    let p = (at-loop→start c) .pre in
     OutsLeft (p .4 .midst .standing .stands) (a .work) (l .work) (lent (l .arcs) (l .weights) (l .nodes) (l .labels) (l .heap)) (a .v) (a .limit) (l .place) (p .2) (p .3)
-left c = let p = c .before .before .before .before .before .before .before .pre in c .loop .inv .5 (p .0) (p .1) (p .2) (p .3) (p .4)
+left c = let p = (at-loop→start c) .pre in c .loop .inv .5 (p .0) (p .1) (p .2) (p .3) (p .4)
 
 -- the place that is read
 room : (c : tie.In-loop Inv-loop μ-loop) → (6 * c .before .loop .place + 6 ≤ length (c .before .loop .arcs)) × (c .before .loop .place < length (c .before .loop .weights))
-room c = left-room (outs-left (c .before .before .before .before .before .before .before .before .pre .4) (left (c .before))) (c .loop-test .taken)
+room c = left-room (outs-left ((at-loop→start (c .before)) .pre .4) (left (c .before))) (c .loop-test .taken)
 
 light : (c : tie.In-loop Inv-loop μ-loop) → getD (c .before .loop .weights) (c .before .loop .place) 0 ≤ maxWeight
-light c = left-fit (outs-left (c .before .before .before .before .before .before .before .before .pre .4) (left (c .before))) (c .loop-test .taken) .light
+light c = left-fit (outs-left ((at-loop→start (c .before)) .pre .4) (left (c .before))) (c .loop-test .taken) .light
 
 mul-place : tie.Need-mul-place Inv-loop μ-loop
 mul-place c = omega (arith, c .before .before .before .before .before .pre .4 .midst .standing .stands .placed .nodes-room, c .before .before .before .before .before .pre .4 .at .node)
@@ -88,40 +110,43 @@ slice-read-sum : tie.Need-slice-read-sum Inv-loop μ-loop
 slice-read-sum c = omega (arith, room (c .before .before .before))
 
 add-sum : tie.Need-add-sum Inv-loop μ-loop
-add-sum c = omega (arith, light (c .before .before .before), c .before .before .before .before .before .before .before .before .before .before .before .pre .4 .at .light)
+add-sum c = omega (arith, light (c .before .before .before), (at-loop→start (c .before .before .before .before)) .pre .4 .at .light)
 
 handle-pair-requires : tie.Need-handle-pair-requires Inv-loop μ-loop
-handle-pair-requires c κs = let p = c .before .before .before .before .before .before .before .before .before .before .before .before .before .before .before .before .pre .4 in let y = left (c .before .before .before .before .before .before .before .before .before) in (_, y .graph, y .search, outs-pairing p y (c .before .before .before .before .before .before .before .before .loop-test .taken))
+handle-pair-requires c κs = let p = (at-loop→start ((handle-pair-arg4→in-loop (c .before)) .before)) .pre .4 in let y = left ((handle-pair-arg4→in-loop (c .before)) .before) in (_, y .graph, y .search, outs-pairing p y ((handle-pair-arg4→in-loop (c .before)) .loop-test .taken))
 
 enum-known-step : tie.Need-enum-known-step Inv-loop μ-loop
 enum-known-step c = search needs
 
 loop-less : tie.Need-loop-less Inv-loop μ-loop
-loop-less c = outs-nearer (c .before .before .before .before .before .before .before .before .before .before .before .before .before .before .before .before .before .before .before .before .before .before .before .before .before .before .before .before .before .before .pre .4) (left (c .before .before .before .before .before .before .before .before .before .before .before .before .before .before .before .before .before .before .before .before .before .before .before)) (c .before .before .before .before .before .before .before .before .before .before .before .before .before .before .before .before .before .before .before .before .before .before .loop-test .taken) (c .before .before .before .before .before .before .before .before .before .before .before .before .before .handle-pair .ensures) _ (c .before .step .given .1)
+loop-less c = outs-nearer ((at-loop→start ((at-match-keys1→in-loop (c .before .before)) .before)) .pre .4) (left ((at-match-keys1→in-loop (c .before .before)) .before)) ((at-match-keys1→in-loop (c .before .before)) .loop-test .taken) ((at-match-keys1→handle-pair (c .before .before)) .handle-pair .ensures) _ (c .before .step .given .1)
 
 loop-again : tie.Need-loop-again Inv-loop μ-loop
-loop-again c = (c .before .before .before .before .before .before .before .before .before .before .before .before .before .handle-pair .kept .0 ∙ c .before .before .before .before .before .before .before .before .before .before .before .before .before .before .before .before .before .before .before .before .before .before .before .loop .inv .0, c .before .before .before .before .before .before .before .before .before .before .before .before .before .handle-pair .kept .1 .0 ∙ c .before .before .before .before .before .before .before .before .before .before .before .before .before .before .before .before .before .before .before .before .before .before .before .loop .inv .1, c .before .before .before .before .before .before .before .before .before .before .before .before .before .handle-pair .kept .1 .1 .0 ∙ c .before .before .before .before .before .before .before .before .before .before .before .before .before .before .before .before .before .before .before .before .before .before .before .loop .inv .2, c .before .before .before .before .before .before .before .before .before .before .before .before .before .handle-pair .kept .1 .1 .1 .0 ∙ c .before .before .before .before .before .before .before .before .before .before .before .before .before .before .before .before .before .before .before .before .before .before .before .loop .inv .3, c .before .before .before .before .before .before .before .before .before .before .before .before .before .handle-pair .kept .1 .1 .1 .1 .0 ∙ c .before .before .before .before .before .before .before .before .before .before .before .before .before .before .before .before .before .before .before .before .before .before .before .loop .inv .4, λ n g a s p. outs-on p (c .before .before .before .before .before .before .before .before .before .before .before .before .before .before .before .before .before .before .before .before .before .before .before .loop .inv .5 n g a s p) (c .before .before .before .before .before .before .before .before .before .before .before .before .before .before .before .before .before .before .before .before .before .before .loop-test .taken) (c .before .before .before .before .before .before .before .before .before .before .before .before .before .handle-pair .ensures) _ (c .before .step .given .1))
+loop-again c =
+    let handle-pair = at-match-keys1→handle-pair (c .before .before) in
+    let at-loop = (at-match-keys1→in-loop (c .before .before)) .before in
+    (handle-pair .handle-pair .kept .0 ∙ at-loop .loop .inv .0, handle-pair .handle-pair .kept .1 .0 ∙ at-loop .loop .inv .1, handle-pair .handle-pair .kept .1 .1 .0 ∙ at-loop .loop .inv .2, handle-pair .handle-pair .kept .1 .1 .1 .0 ∙ at-loop .loop .inv .3, handle-pair .handle-pair .kept .1 .1 .1 .1 .0 ∙ at-loop .loop .inv .4, λ n g a s p. outs-on p (at-loop .loop .inv .5 n g a s p) ((at-match-keys1→in-loop (c .before .before)) .loop-test .taken) (handle-pair .handle-pair .ensures) _ (c .before .step .given .1))
 
 enum-known-step-2 : tie.Need-enum-known-step-2 Inv-loop μ-loop
 enum-known-step-2 c = search needs
 
 same-length : tie.Need-same-length Inv-loop μ-loop
-same-length c = c .before .before .before .before .before .before .before .before .before .before .before .before .before .handle-pair .kept .0 ∙ c .before .before .before .before .before .before .before .before .before .before .before .before .before .before .before .before .before .before .before .before .before .before .before .loop .inv .0
+same-length c = (at-match-keys2→handle-pair (c .before .before)) .handle-pair .kept .0 ∙ (at-match-keys2→at-loop (c .before .before)) .loop .inv .0
 
 same-length-2 : tie.Need-same-length-2 Inv-loop μ-loop
-same-length-2 c = c .before .before .before .before .before .before .before .before .before .before .before .before .before .handle-pair .kept .1 .0 ∙ c .before .before .before .before .before .before .before .before .before .before .before .before .before .before .before .before .before .before .before .before .before .before .before .loop .inv .1
+same-length-2 c = (at-match-keys2→handle-pair (c .before .before)) .handle-pair .kept .1 .0 ∙ (at-match-keys2→at-loop (c .before .before)) .loop .inv .1
 
 same-length-3 : tie.Need-same-length-3 Inv-loop μ-loop
-same-length-3 c = c .before .before .before .before .before .before .before .before .before .before .before .before .before .handle-pair .kept .1 .1 .0 ∙ c .before .before .before .before .before .before .before .before .before .before .before .before .before .before .before .before .before .before .before .before .before .before .before .loop .inv .2
+same-length-3 c = (at-match-keys2→handle-pair (c .before .before)) .handle-pair .kept .1 .1 .0 ∙ (at-match-keys2→at-loop (c .before .before)) .loop .inv .2
 
 same-length-4 : tie.Need-same-length-4 Inv-loop μ-loop
-same-length-4 c = c .before .before .before .before .before .before .before .before .before .before .before .before .before .handle-pair .kept .1 .1 .1 .0 ∙ c .before .before .before .before .before .before .before .before .before .before .before .before .before .before .before .before .before .before .before .before .before .before .before .loop .inv .3
+same-length-4 c = (at-match-keys2→handle-pair (c .before .before)) .handle-pair .kept .1 .1 .1 .0 ∙ (at-match-keys2→at-loop (c .before .before)) .loop .inv .3
 
 same-length-5 : tie.Need-same-length-5 Inv-loop μ-loop
-same-length-5 c = c .before .before .before .before .before .before .before .before .before .before .before .before .before .handle-pair .kept .1 .1 .1 .1 .0 ∙ c .before .before .before .before .before .before .before .before .before .before .before .before .before .before .before .before .before .before .before .before .before .before .before .loop .inv .4
+same-length-5 c = (at-match-keys2→handle-pair (c .before .before)) .handle-pair .kept .1 .1 .1 .1 .0 ∙ (at-match-keys2→at-loop (c .before .before)) .loop .inv .4
 
 returns : tie.Need-returns Inv-loop μ-loop
-returns c = λ n g a s p. steps-refused (outs-stop p (c .before .before .before .before .before .before .before .before .before .before .before .before .before .before .before .before .before .before .before .before .before .before .before .loop .inv .5 n g a s p) (c .before .before .before .before .before .before .before .before .before .before .before .before .before .before .before .before .before .before .before .before .before .before .loop-test .taken) (c .before .before .before .before .before .before .before .before .before .before .before .before .before .handle-pair .ensures) _ (c .before .step2 .given .1))
+returns c = λ n g a s p. steps-refused (outs-stop p ((at-match-keys2→at-loop (c .before .before)) .loop .inv .5 n g a s p) ((handle-pair-arg4→in-loop ((at-match-keys2→handle-pair (c .before .before)) .before .before)) .loop-test .taken) ((at-match-keys2→handle-pair (c .before .before)) .handle-pair .ensures) _ (c .before .step2 .given .1))
 
 same-length-6 : tie.Need-same-length-6 Inv-loop μ-loop
 same-length-6 c = c .before .loop .inv .0

@@ -1,5 +1,5 @@
 -- The invariant: the numbers passed name each node once, and the flags are of the nodes that they name.
-use mathlib.Core.Path.{_≡_, refl}
+use mathlib.Core.Path.{refl}
 use Prim.Native.Nat.{_-_, _≤_}
 use native.Mathlib.Omega.{arith}
 use borrow.Author.Needs.{needs}

@@ -6,6 +6,13 @@ use Rattle.query.proofs.FirstMet.{row-21, row-21-targets, row-22, row-2
 use Rattle.query.proofs.ends_refusal.Statement.{statement}
 use Rattle.query.proofs.ends_refusal.Tie as tie
 
+-- Back from a place of the body to an earlier one.
+abbrev offsets-fit→else2 : tie.After-offsets-fit → tie.Else2
+offsets-fit→else2 c = c .before .before .before .before .before
+
+abbrev offsets-fit2→ends-fit2 : tie.After-offsets-fit2 → tie.After-ends-fit2
+offsets-fit2→ends-fit2 c = (offsets-fit→else2 (c .before .before)) .before
+
 ends-fit-requires : tie.Need-ends-fit-requires
 ends-fit-requires c κs = search needs
 
@@ -34,16 +41,16 @@ offsets-fit-requires : tie.Need-offsets-fit-requires
 offsets-fit-requires c κs = search needs
 
 returns-5 : tie.Need-returns-5
-returns-5 c = row-23 _ _ _ (sym (c .before .before .before .before .before .before .before .before .before .ends-fit .ensures) ∙ not-false _ (c .before .before .before .before .before .before .before .before .if1 .left)) (sym (c .before .before .before .before .before .before .before .ends-fit2 .ensures) ∙ not-false _ (c .before .before .before .before .before .before .if2 .left)) (sym (c .before .before .before .before .before .all-below .ensures) ∙ not-false _ (c .before .before .before .before .if3 .left)) (sym (c .before .before .before .all-below2 .ensures) ∙ not-false _ (c .before .before .if4 .left)) (sym (c .before .offsets-fit .ensures) ∙ not-true _ (c .if5 .taken))
+returns-5 c = row-23 _ _ _ (sym ((offsets-fit→else2 (c .before)) .before .before .before .ends-fit .ensures) ∙ not-false _ ((offsets-fit→else2 (c .before)) .before .before .if1 .left)) (sym ((offsets-fit→else2 (c .before)) .before .ends-fit2 .ensures) ∙ not-false _ ((offsets-fit→else2 (c .before)) .if2 .left)) (sym (c .before .before .before .before .before .all-below .ensures) ∙ not-false _ (c .before .before .before .before .if3 .left)) (sym (c .before .before .before .all-below2 .ensures) ∙ not-false _ (c .before .before .if4 .left)) (sym (c .before .offsets-fit .ensures) ∙ not-true _ (c .if5 .taken))
 
 offsets-fit-requires-2 : tie.Need-offsets-fit-requires-2
 offsets-fit-requires-2 c κs = search needs
 
 returns-6 : tie.Need-returns-6
-returns-6 c = row-23-targets _ _ _ (sym (c .before .before .before .before .before .before .before .before .before .before .before .ends-fit .ensures) ∙ not-false _ (c .before .before .before .before .before .before .before .before .before .before .if1 .left)) (sym (c .before .before .before .before .before .before .before .before .before .ends-fit2 .ensures) ∙ not-false _ (c .before .before .before .before .before .before .before .before .if2 .left)) (sym (c .before .before .before .before .before .before .before .all-below .ensures) ∙ not-false _ (c .before .before .before .before .before .before .if3 .left)) (sym (c .before .before .before .before .before .all-below2 .ensures) ∙ not-false _ (c .before .before .before .before .if4 .left)) (sym (c .before .before .before .offsets-fit .ensures) ∙ not-false _ (c .before .before .if5 .left)) (sym (c .before .offsets-fit2 .ensures) ∙ not-true _ (c .if6 .taken))
+returns-6 c = row-23-targets _ _ _ (sym ((offsets-fit2→ends-fit2 (c .before)) .before .before .ends-fit .ensures) ∙ not-false _ ((offsets-fit2→ends-fit2 (c .before)) .before .if1 .left)) (sym ((offsets-fit2→ends-fit2 (c .before)) .ends-fit2 .ensures) ∙ not-false _ ((offsets-fit→else2 (c .before .before .before)) .if2 .left)) (sym (c .before .before .before .before .before .before .before .all-below .ensures) ∙ not-false _ (c .before .before .before .before .before .before .if3 .left)) (sym (c .before .before .before .before .before .all-below2 .ensures) ∙ not-false _ (c .before .before .before .before .if4 .left)) (sym (c .before .before .before .offsets-fit .ensures) ∙ not-false _ (c .before .before .if5 .left)) (sym (c .before .offsets-fit2 .ensures) ∙ not-true _ (c .if6 .taken))
 
 returns-7 : tie.Need-returns-7
-returns-7 c = ends-good _ _ _ (sym (c .before .before .before .before .before .before .before .before .before .before .before .ends-fit .ensures) ∙ not-false _ (c .before .before .before .before .before .before .before .before .before .before .if1 .left)) (sym (c .before .before .before .before .before .before .before .before .before .ends-fit2 .ensures) ∙ not-false _ (c .before .before .before .before .before .before .before .before .if2 .left)) (sym (c .before .before .before .before .before .before .before .all-below .ensures) ∙ not-false _ (c .before .before .before .before .before .before .if3 .left)) (sym (c .before .before .before .before .before .all-below2 .ensures) ∙ not-false _ (c .before .before .before .before .if4 .left)) (sym (c .before .before .before .offsets-fit .ensures) ∙ not-false _ (c .before .before .if5 .left)) (sym (c .before .offsets-fit2 .ensures) ∙ not-false _ (c .if6 .left))
+returns-7 c = ends-good _ _ _ (sym ((offsets-fit2→ends-fit2 (c .before)) .before .before .ends-fit .ensures) ∙ not-false _ ((offsets-fit2→ends-fit2 (c .before)) .before .if1 .left)) (sym ((offsets-fit2→ends-fit2 (c .before)) .ends-fit2 .ensures) ∙ not-false _ ((offsets-fit→else2 (c .before .before .before)) .if2 .left)) (sym (c .before .before .before .before .before .before .before .all-below .ensures) ∙ not-false _ (c .before .before .before .before .before .before .if3 .left)) (sym (c .before .before .before .before .before .all-below2 .ensures) ∙ not-false _ (c .before .before .before .before .if4 .left)) (sym (c .before .before .before .offsets-fit .ensures) ∙ not-false _ (c .before .before .if5 .left)) (sym (c .before .offsets-fit2 .ensures) ∙ not-false _ (c .if6 .left))
 
 pub ends-refusal-spec : {M : Type 1} → statement M
 ends-refusal-spec =

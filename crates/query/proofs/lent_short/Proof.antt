@@ -1,5 +1,4 @@
 -- Each return is a length that is short, or the last test.
-use native.Mathlib.Omega.{arith}
 use borrow.Author.Needs.{needs}
 use Rattle.query.proofs.FirstMet.{path-short, fl-short, bl-short, fh-short, bh-short}
 use Rattle.query.proofs.lent_short.Statement.{statement}

@@ -7,6 +7,16 @@ use Rattle.query.proofs.FirstMet.{table-rules, tables-broken, ends-bad,
 use Rattle.query.proofs.refusal.Statement.{statement}
 use Rattle.query.proofs.refusal.Tie as tie
 
+-- Back from a place of the body to an earlier one.
+abbrev shared-known7→start : tie.After-shared-slice-known7 → tie.Start
+shared-known7→start c = c .before .before .before .before .before .before .before
+
+abbrev shared-known14→start : tie.After-shared-slice-known14 → tie.Start
+shared-known14→start c = shared-known7→start (c .before .before .before .before .before .before .before)
+
+abbrev check-tables→start : tie.After-check-tables → tie.Start
+check-tables→start c = shared-known14→start (c .before .before .before .before .before)
+
 check-tables-requires : tie.Need-check-tables-requires
 check-tables-requires c κs = search needs
 
@@ -27,7 +37,7 @@ unfolding table
 shared-slice-read-lent-short c = table-rules _ _ _ (c .before .before .before .before .check-tables .ensures) (c .before .before .before .if1 .left) .side-rules forward .places-for-starts
 
 cast-lent-short : tie.Need-cast-lent-short
-cast-lent-short c = omega (arith, c .shared-slice-known19 .given (c .before .before .before .before .before .before .before .before .before .before .before .before .before .before .before .before .before .before .before .before .before .before .before .args .n))
+cast-lent-short c = omega (arith, c .shared-slice-known19 .given ((check-tables→start (c .before .before .before .before)) .args .n))
 
 mul-lent-short-2 : tie.Need-mul-lent-short-2
 mul-lent-short-2 c = omega (arith, table-rules _ _ _ (c .before .before .before .before .check-tables .ensures) (c .before .before .before .if1 .left) .nodes)
@@ -37,10 +47,12 @@ unfolding table
 shared-slice-read-lent-short-2 c = table-rules _ _ _ (c .before .before .before .before .before .check-tables .ensures) (c .before .before .before .before .if1 .left) .side-rules backward .places-for-starts
 
 cast-lent-short-2 : tie.Need-cast-lent-short-2
-cast-lent-short-2 c = omega (arith, c .shared-slice-known20 .given (c .before .before .before .before .before .before .before .before .before .before .before .before .before .before .before .before .before .before .before .before .before .before .before .before .args .n))
+cast-lent-short-2 c = omega (arith, c .shared-slice-known20 .given ((check-tables→start (c .before .before .before .before .before)) .args .n))
 
 lent-short-requires : tie.Need-lent-short-requires
-lent-short-requires c κs = (table-rules _ _ _ (c .before .before .before .before .before .check-tables .ensures) (c .before .before .before .before .if1 .left) .nodes, omega (arith, c .before .shared-slice-known19 .given (c .before .before .before .before .before .before .before .before .before .before .before .before .before .before .before .before .before .before .before .before .before .before .before .before .args .n)), omega (arith, c .shared-slice-known20 .given (c .before .before .before .before .before .before .before .before .before .before .before .before .before .before .before .before .before .before .before .before .before .before .before .before .args .n)))
+lent-short-requires c κs =
+    let start = check-tables→start (c .before .before .before .before .before) in
+    (table-rules _ _ _ (c .before .before .before .before .before .check-tables .ensures) (c .before .before .before .before .if1 .left) .nodes, omega (arith, c .before .shared-slice-known19 .given (start .args .n)), omega (arith, c .shared-slice-known20 .given (start .args .n)))
 
 returns-3 : tie.Need-returns-3
 returns-3 c = room-bad _ _ _ _ _ _ _ _ _ _ _ _ (c .before .before .before .before .before .before .before .check-tables .ensures) (c .before .before .before .before .before .before .if1 .left) (sym (c .before .before .before .before .if2 .left) ∙ c .before .before .before .before .before .ends-refusal .ensures) (sym (c .before .lent-short .ensures) ∙ c .if3 .taken)

@@ -18,14 +18,21 @@ Inv-loop arcs weights nodes labels₀ heap₀ n limit run₀ v₀ labels heap ru
 abbrev μ-loop : tie.MeasureT-loop
 μ-loop arcs weights nodes labels₀ heap₀ n limit run₀ v₀ labels heap run v = n - v
 
+-- Back from a place of the body to an earlier one.
+abbrev in-loop→start : tie.In-loop Inv-loop μ-loop → tie.Start Inv-loop μ-loop
+in-loop→start c = c .before .before .before .before .before .before .before
+
+abbrev in-arcs→at-loop : tie.After-in-arcs Inv-loop μ-loop → tie.At-loop Inv-loop μ-loop
+in-arcs→at-loop c = c .before .before .before .before
+
 loop-holds : tie.Need-loop-holds Inv-loop μ-loop
 loop-holds c = (omega arith, refl, refl, λ l g. nodes-all g _ _ refl refl)
 
 cast-in-arcs : tie.Need-cast-in-arcs Inv-loop μ-loop
-cast-in-arcs c = omega (arith, c .before .before .before .before .before .before .before .before .before .pre .1 .few-nodes, c .before .before .loop-test .taken)
+cast-in-arcs c = omega (arith, (in-loop→start (c .before .before)) .pre .1 .few-nodes, c .before .before .loop-test .taken)
 
 in-arcs-requires : tie.Need-in-arcs-requires Inv-loop μ-loop
-in-arcs-requires c κs = let p = c .before .before .before .before .before .before .before .before .before .pre in (_, nodes-entering (p .1) (c .before .before .before .loop .inv .3 (p .0) (p .1)) (c .before .before .loop-test .taken))
+in-arcs-requires c κs = let p = (in-loop→start (c .before .before)) .pre in (_, nodes-entering (p .1) (c .before .before .before .loop .inv .3 (p .0) (p .1)) (c .before .before .loop-test .taken))
 
 add-v : tie.Need-add-v Inv-loop μ-loop
 add-v c = search needs
@@ -34,12 +41,13 @@ loop-less : tie.Need-loop-less Inv-loop μ-loop
 loop-less c = omega (arith, c .before .before .before .before .before .before .before .loop-test .taken)
 
 loop-again : tie.Need-loop-again Inv-loop μ-loop
-loop-again c = (
-  omega (arith, c .before .before .before .before .before .before .before .loop-test .taken),
-  c .before .before .before .before .in-arcs .kept .1 .1 .1 .0 ∙ c .before .before .before .before .before .before .before .before .loop .inv .1,
-  c .before .before .before .before .in-arcs .kept .1 .1 .1 .1 .0 ∙ c .before .before .before .before .before .before .before .before .loop .inv .2,
-  λ l g. nodes-on g (c .before .before .before .before .before .before .before .before .loop .inv .3 l g) (c .before .before .before .before .before .before .before .loop-test .taken) (c .before .before .before .before .in-arcs .result) (c .before .before .before .before .in-arcs .kept .1 .1 .1 .1 .0) (c .before .before .before .before .in-arcs .ensures),
-)
+loop-again c =
+    let at-loop = in-arcs→at-loop (c .before .before .before .before) in (
+      omega (arith, c .before .before .before .before .before .before .before .loop-test .taken),
+      c .before .before .before .before .in-arcs .kept .1 .1 .1 .0 ∙ at-loop .loop .inv .1,
+      c .before .before .before .before .in-arcs .kept .1 .1 .1 .1 .0 ∙ at-loop .loop .inv .2,
+      λ l g. nodes-on g (at-loop .loop .inv .3 l g) (c .before .before .before .before .before .before .before .loop-test .taken) (c .before .before .before .before .in-arcs .result) (c .before .before .before .before .in-arcs .kept .1 .1 .1 .1 .0) (c .before .before .before .before .in-arcs .ensures),
+    )
 
 same-length : tie.Need-same-length Inv-loop μ-loop
 same-length c = c .before .loop .inv .1

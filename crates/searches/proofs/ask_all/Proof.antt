@@ -21,6 +21,19 @@ Inv-loop arcs weights nodes labels₀ heap₀ limit targets sums answers₀ coun
 abbrev μ-loop : tie.MeasureT-loop
 μ-loop arcs weights nodes labels₀ heap₀ limit targets sums answers₀ counts₀ search₀ k₀ labels heap answers counts search k = length targets - k
 
+-- Back from a place of the body to an earlier one.
+abbrev shared-known5→start : tie.After-shared-slice-known5 Inv-loop μ-loop → tie.Start Inv-loop μ-loop
+shared-known5→start c = c .before .before .before .before .before .before .before
+
+abbrev at-loop→start : tie.At-loop Inv-loop μ-loop → tie.Start Inv-loop μ-loop
+at-loop→start c = shared-known5→start (c .before .before .before)
+
+abbrev find-max-weight→in-loop : tie.After-find-max-weight Inv-loop μ-loop → tie.In-loop Inv-loop μ-loop
+find-max-weight→in-loop c = c .before .before .before .before .before
+
+abbrev find-max-weight→start : tie.After-find-max-weight Inv-loop μ-loop → tie.Start Inv-loop μ-loop
+find-max-weight→start c = at-loop→start ((find-max-weight→in-loop c) .before)
+
 loop-holds : tie.Need-loop-holds Inv-loop μ-loop
 loop-holds c = (omega arith, refl, refl, refl, refl, λ w s x. none-so-far _ _ (x .ready))
 
@@ -38,32 +51,32 @@ shared-slice-read-find-max-weight-2 c = search needs
 
 find-max-weight-requires : tie.Need-find-max-weight-requires Inv-loop μ-loop
 find-max-weight-requires c κs =
-    let p = c .before .before .before .before .before .before .before .before .before .before .before .before .before .before .before .pre in
+    let p = (at-loop→start (c .before .before .before .before .before)) .pre in
     let y = c .before .before .before .before .before .loop .inv .5 (p .0) (p .1) (p .2) in
     (p .0, y .search, next-asked y (p .2 .asks) (c .before .before .before .before .loop-test .taken))
 
 mul-answers : tie.Need-mul-answers Inv-loop μ-loop
-mul-answers c = omega (arith, c .before .before .before .before .before .before .before .before .before .loop-test .taken, c .before .before .before .before .before .before .before .before .before .before .before .before .before .before .before .before .before .before .before .before)
+mul-answers c = omega (arith, (find-max-weight→in-loop (c .before .before .before .before)) .loop-test .taken, find-max-weight→start (c .before .before .before .before))
 
 slice-write-answers : tie.Need-slice-write-answers Inv-loop μ-loop
 slice-write-answers c = search needs
 
 mul-counts : tie.Need-mul-counts Inv-loop μ-loop
-mul-counts c = omega (arith, c .before .before .before .before .before .before .before .before .before .loop-test .taken, c .before .before .before .before .before .before .before .before .before .before .before .before .before .before .before .before .before .before .before .before)
+mul-counts c = omega (arith, (find-max-weight→in-loop (c .before .before .before .before)) .loop-test .taken, find-max-weight→start (c .before .before .before .before))
 
 slice-write-counts : tie.Need-slice-write-counts Inv-loop μ-loop
 slice-write-counts c = search needs
 
 add-k : tie.Need-add-k Inv-loop μ-loop
-add-k c = omega (arith, c .before .before .before .before .before .before .before .before .before .before .loop-test .taken, c .before .before .before .before .before .before .before .before .before .before .before .before .before .before .before .before .before .before .before .before .before)
+add-k c = omega (arith, (find-max-weight→in-loop (c .before .before .before .before .before)) .loop-test .taken, find-max-weight→start (c .before .before .before .before .before))
 
 loop-less : tie.Need-loop-less Inv-loop μ-loop
 loop-less c = search needs
 
 loop-again : tie.Need-loop-again Inv-loop μ-loop
 loop-again c =
-    let loop = c .before .before .before .before .before .before .before .before .before .before .before .loop in
-    let below = c .before .before .before .before .before .before .before .before .before .before .loop-test .taken in
+    let loop = (find-max-weight→in-loop (c .before .before .before .before .before)) .before .loop in
+    let below = (find-max-weight→in-loop (c .before .before .before .before .before)) .loop-test .taken in
     let asked = c .before .before .before .before .before .find-max-weight in (
       omega (arith, below),
       search needs,

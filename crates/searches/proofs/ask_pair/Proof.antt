@@ -5,6 +5,13 @@ use Rattle.searches.proofs.Pairs.{unchanged, same-ends, too-heavy, pair
 use Rattle.searches.proofs.ask_pair.Statement.{statement}
 use Rattle.searches.proofs.ask_pair.Tie as tie
 
+-- Back from a place of the body to an earlier one.
+abbrev else2→start : tie.Else2 → tie.Start
+else2→start c = c .before .before .before .before .before .before .before
+
+abbrev count-in→find-max-weight : tie.After-count-in → tie.After-find-max-weight
+count-in→find-max-weight c = c .before .before .before .before .before .before
+
 returns : tie.Need-returns
 returns c = λ w s p. unchanged (p .ready) (same-ends _ _ _ _ _ _ _ (c .if1 .taken))
 
@@ -13,7 +20,7 @@ returns-2 c = λ w s p. unchanged (p .ready) (too-heavy _ _ _ _ _ _ _ (c .before
 
 find-max-weight-requires : tie.Need-find-max-weight-requires
 find-max-weight-requires c κs =
-    let p = c .before .before .before .before .before .before .before .before .before .before .pre in
+    let p = (else2→start (c .before .before .before)) .pre in
     (p .0, p .1, record { ready = p .2 .ready; inside = p .2 .inside; small = omega (arith, c .before .before .before .if2 .left) })
 
 count-in-requires : tie.Need-count-in-requires
@@ -27,8 +34,9 @@ same-length-2 c = search needs
 
 returns-3 : tie.Need-returns-3
 returns-3 c =
-    let asked = c .before .before .before .before .before .before .find-max-weight in
-    λ w s p. pair-asked (asked .result) (c .before .before .before .before .before .before .before .before .before .before .before .if1 .left) (c .before .before .before .before .before .before .before .before .before .before .if2 .left) (asked .ensures w s (record { ready = p .ready; inside = p .inside; small = omega (arith, c .before .before .before .before .before .before .before .before .before .before .if2 .left) })) (c .count-in .ensures)
+    let else2 = (count-in→find-max-weight c) .before .before .before .before in
+    let asked = (count-in→find-max-weight c) .find-max-weight in
+    λ w s p. pair-asked (asked .result) ((count-in→find-max-weight c) .before .before .before .before .before .if1 .left) (else2 .if2 .left) (asked .ensures w s (record { ready = p .ready; inside = p .inside; small = omega (arith, else2 .if2 .left) })) (c .count-in .ensures)
 
 pub ask-pair-spec : {M : Type 1} → statement M
 ask-pair-spec =

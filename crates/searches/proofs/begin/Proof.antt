@@ -9,6 +9,16 @@ use borrow.Author.Needs.{needs}
 use Rattle.searches.proofs.begin.Statement.{statement}
 use Rattle.searches.proofs.begin.Tie as tie
 
+-- Back from a place of the body to an earlier one.
+abbrev at-match-keys1→from-input-graph : tie.At-match-keys1 → tie.After-from-input-graph
+at-match-keys1→from-input-graph c = c .before .before .before .before .before .before .before
+
+abbrev at-match-keys1→else1 : tie.At-match-keys1 → tie.Else1
+at-match-keys1→else1 c = (at-match-keys1→from-input-graph c) .before .before .before .before
+
+abbrev at-match-keys2→from-input-graph : tie.At-match-keys2 → tie.After-from-input-graph
+at-match-keys2→from-input-graph c = c .before .before .before .before .before .before .before
+
 given-fits-requires : tie.Need-given-fits-requires
 given-fits-requires c κs = search needs
 
@@ -53,10 +63,10 @@ same-length-3 : tie.Need-same-length-3
 same-length-3 c = search needs
 
 returns-2 : tie.Need-returns-2
-returns-2 c = not-begun _ (c .refused2 .ensures) (λ p. never-full _ _ _ (p .between .even) (omega arith) (c .before .before .before .before .before .before .before .before .before .from-input-graph .ensures .full (c .before .enum-told2 .given .1)))
+returns-2 c = not-begun _ (c .refused2 .ensures) (λ p. never-full _ _ _ (p .between .even) (omega arith) ((at-match-keys2→from-input-graph (c .before .before)) .from-input-graph .ensures .full (c .before .enum-told2 .given .1)))
 
 new-requires : tie.Need-new-requires
-new-requires c κs = c .before .before .before .before .before .before .before .before .before .before .before .before .before .before .given-fits .ensures .0 (not-false _ (c .before .before .before .before .before .before .before .before .before .before .before .before .before .if1 .left)) .enough .labels-room
+new-requires c κs = (at-match-keys1→else1 (c .before .before)) .before .given-fits .ensures .0 (not-false _ ((at-match-keys1→else1 (c .before .before)) .if1 .left)) .enough .labels-room
 
 same-length-4 : tie.Need-same-length-4
 same-length-4 c = search needs
@@ -72,7 +82,7 @@ same-length-7 c = search needs
 
 returns-3 : tie.Need-returns-3
 returns-3 c =
-    let fits = c .before .before .before .before .before .before .before .before .before .before .before .before .before .before .before .before .before .given-fits .ensures .0 (not-false _ (c .before .before .before .before .before .before .before .before .before .before .before .before .before .before .before .before .if1 .left)) in
+    let fits = (at-match-keys1→else1 (c .before .before .before .before .before)) .before .given-fits .ensures .0 (not-false _ ((at-match-keys1→else1 (c .before .before .before .before .before)) .if1 .left)) in
     let told = c .before .before .before .before .enum-told .given in
     record {
       decides = yes fits;
@@ -84,8 +94,8 @@ returns-3 c =
                 record {
                   standing =
                       record {
-                        stands = c .before .before .before .before .before .before .before .before .before .before .before .before .from-input-graph .ensures .came (told .0 .0) (told .1);
-                        light = light _ _ _ (λ k. c .before .before .before .before .before .before .before .before .before .before .before .before .before .before .before .before .before .before .before .before .before .before .shared-slice-known3 .given k .fits);
+                        stands = (at-match-keys1→from-input-graph (c .before .before .before .before .before)) .from-input-graph .ensures .came (told .0 .0) (told .1);
+                        light = light _ _ _ (λ k. (at-match-keys1→else1 (c .before .before .before .before .before)) .before .before .before .before .before .before .shared-slice-known3 .given k .fits);
                       };
                   stamped = rw (c .before .before .new .ensures .0) (c .before .before .new .ensures .1);
                   heap-room = fits .enough .heap-room;

@@ -19,14 +19,21 @@ Inv-loop arcs weights nodes labels₀ heap₀ v limit run₀ place₀ labels hea
 abbrev μ-loop : tie.MeasureT-loop
 μ-loop arcs weights nodes labels₀ heap₀ v limit run₀ place₀ labels heap run place = steps (column arcs 4) (length arcs) place
 
+-- Back from a place of the body to an earlier one.
+abbrev at-loop→start : tie.At-loop Inv-loop μ-loop → tie.Start Inv-loop μ-loop
+at-loop→start c = c .before .before .before .before .before .before .before
+
+abbrev from-tail→in-loop : tie.After-from-tail Inv-loop μ-loop → tie.In-loop Inv-loop μ-loop
+from-tail→in-loop c = c .before .before .before .before .before .before
+
 -- of the graph that is there
 left : (c : tie.At-loop Inv-loop μ-loop) →
-    let a = c .before .before .before .before .before .before .before .args in
-    InsLeft (a .arcs .now) (a .weights .now) (a .nodes .now) (c .loop .labels) (length (c .loop .heap)) (a .run) (c .loop .run) (a .v) (a .limit) (c .loop .place) (c .before .before .before .before .before .before .before .pre .0)
-left c = let p = c .before .before .before .before .before .before .before .pre in c .loop .inv .2 (p .0) (p .1)
+    let a = (at-loop→start c) .args in
+    InsLeft (a .arcs .now) (a .weights .now) (a .nodes .now) (c .loop .labels) (length (c .loop .heap)) (a .run) (c .loop .run) (a .v) (a .limit) (c .loop .place) ((at-loop→start c) .pre .0)
+left c = let p = (at-loop→start c) .pre in c .loop .inv .2 (p .0) (p .1)
 
 -- the place that is read
-room : (c : tie.In-loop Inv-loop μ-loop) → (6 * c .before .loop .place + 6 ≤ length (c .before .before .before .before .before .before .before .before .args .arcs .now)) × (c .before .loop .place < length (c .before .before .before .before .before .before .before .before .args .weights .now))
+room : (c : tie.In-loop Inv-loop μ-loop) → (6 * c .before .loop .place + 6 ≤ length ((at-loop→start (c .before)) .args .arcs .now)) × (c .before .loop .place < length ((at-loop→start (c .before)) .args .weights .now))
 room c = left-room (left (c .before) .left) (c .loop-test .taken)
 
 mul-place : tie.Need-mul-place Inv-loop μ-loop
@@ -75,17 +82,18 @@ shared-slice-read-from-tail-2 : tie.Need-shared-slice-read-from-tail-2 Inv-loop 
 shared-slice-read-from-tail-2 c = omega (arith, room (c .before .before .before .before .before))
 
 from-tail-requires : tie.Need-from-tail-requires Inv-loop μ-loop
-from-tail-requires c κs = (_, ins-coming (left (c .before .before .before .before .before .before)) (c .before .before .before .before .before .before .before .before .before .before .before .before .before .pre .1) (c .before .before .before .before .before .loop-test .taken))
+from-tail-requires c κs = (_, ins-coming (left (c .before .before .before .before .before .before)) ((at-loop→start (c .before .before .before .before .before .before)) .pre .1) (c .before .before .before .before .before .loop-test .taken))
 
 loop-less : tie.Need-loop-less Inv-loop μ-loop
-loop-less c = left-nearer (left (c .before .before .before .before .before .before .before .before .before .before .before) .left) (c .before .before .before .before .before .before .before .before .before .before .loop-test .taken)
+loop-less c = left-nearer (left ((from-tail→in-loop (c .before .before .before .before)) .before) .left) ((from-tail→in-loop (c .before .before .before .before)) .loop-test .taken)
 
 loop-again : tie.Need-loop-again Inv-loop μ-loop
-loop-again c = (
-  c .before .before .before .before .from-tail .kept .1 .1 .1 .0 ∙ c .before .before .before .before .before .before .before .before .before .before .before .loop .inv .0,
-  c .before .before .before .before .from-tail .kept .1 .1 .1 .1 .0 ∙ c .before .before .before .before .before .before .before .before .before .before .before .loop .inv .1,
-  λ w p. ins-on (c .before .before .before .before .before .before .before .before .before .before .before .loop .inv .2 w p) p (c .before .before .before .before .before .before .before .before .before .before .loop-test .taken) (c .before .before .before .before .from-tail .result) (c .before .before .before .before .from-tail .kept .1 .1 .1 .1 .0) (c .before .before .before .before .from-tail .ensures),
-)
+loop-again c =
+    let at-loop = (from-tail→in-loop (c .before .before .before .before)) .before in (
+      c .before .before .before .before .from-tail .kept .1 .1 .1 .0 ∙ at-loop .loop .inv .0,
+      c .before .before .before .before .from-tail .kept .1 .1 .1 .1 .0 ∙ at-loop .loop .inv .1,
+      λ w p. ins-on (at-loop .loop .inv .2 w p) p ((from-tail→in-loop (c .before .before .before .before)) .loop-test .taken) (c .before .before .before .before .from-tail .result) (c .before .before .before .before .from-tail .kept .1 .1 .1 .1 .0) (c .before .before .before .before .from-tail .ensures),
+    )
 
 same-length : tie.Need-same-length Inv-loop μ-loop
 same-length c = c .before .loop .inv .0

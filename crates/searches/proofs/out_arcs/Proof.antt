@@ -21,15 +21,22 @@ Inv-loop arcs weights nodes labels₀ heap₀ v tail weight limit run₀ place�
 abbrev μ-loop : tie.MeasureT-loop
 μ-loop arcs weights nodes labels₀ heap₀ v tail weight limit run₀ place₀ labels heap run place = steps (column arcs 3) (length arcs) place
 
+-- Back from a place of the body to an earlier one.
+abbrev at-loop→start : tie.At-loop Inv-loop μ-loop → tie.Start Inv-loop μ-loop
+at-loop→start c = c .before .before .before .before .before .before .before
+
+abbrev ask-pair→in-loop : tie.After-ask-pair Inv-loop μ-loop → tie.In-loop Inv-loop μ-loop
+ask-pair→in-loop c = c .before .before .before .before .before .before
+
 -- of the graph and the search that are there
 left : (c : tie.At-loop Inv-loop μ-loop) →
-    let a = c .before .before .before .before .before .before .before .args in
-    let p = c .before .before .before .before .before .before .before .pre in
+    let a = (at-loop→start c) .args in
+    let p = (at-loop→start c) .pre in
     OutsLeft (lent (a .arcs .now) (a .weights .now) (a .nodes .now) (c .loop .labels) (c .loop .heap)) (a .run) (c .loop .run) (a .v) (a .tail) (a .weight) (a .limit) (c .loop .place) (p .0) (p .1)
-left c = let p = c .before .before .before .before .before .before .before .pre in c .loop .inv .2 (p .0) (p .1) (p .2)
+left c = let p = (at-loop→start c) .pre in c .loop .inv .2 (p .0) (p .1) (p .2)
 
 -- the place that is read
-room : (c : tie.In-loop Inv-loop μ-loop) → (6 * c .before .loop .place + 6 ≤ length (c .before .before .before .before .before .before .before .before .args .arcs .now)) × (c .before .loop .place < length (c .before .before .before .before .before .before .before .before .args .weights .now))
+room : (c : tie.In-loop Inv-loop μ-loop) → (6 * c .before .loop .place + 6 ≤ length ((at-loop→start (c .before)) .args .arcs .now)) × (c .before .loop .place < length ((at-loop→start (c .before)) .args .weights .now))
 room c = left-room (left (c .before) .left) (c .loop-test .taken)
 
 mul-place : tie.Need-mul-place Inv-loop μ-loop
@@ -78,20 +85,21 @@ shared-slice-read-ask-pair-2 : tie.Need-shared-slice-read-ask-pair-2 Inv-loop μ
 shared-slice-read-ask-pair-2 c = omega (arith, room (c .before .before .before .before .before))
 
 add-ask-pair-2 : tie.Need-add-ask-pair-2 Inv-loop μ-loop
-add-ask-pair-2 c = omega (arith, left-fit (left (c .before .before .before .before .before .before) .left) (c .before .before .before .before .before .loop-test .taken) .light, c .before .before .before .before .before .before .before .before .before .before .before .before .before .pre .2 .light)
+add-ask-pair-2 c = omega (arith, left-fit (left (c .before .before .before .before .before .before) .left) (c .before .before .before .before .before .loop-test .taken) .light, (at-loop→start (c .before .before .before .before .before .before)) .pre .2 .light)
 
 ask-pair-requires : tie.Need-ask-pair-requires Inv-loop μ-loop
 ask-pair-requires c κs = let y = left (c .before .before .before .before .before .before) in (_, y .done .search, outs-pairing y (c .before .before .before .before .before .loop-test .taken))
 
 loop-less : tie.Need-loop-less Inv-loop μ-loop
-loop-less c = left-nearer (left (c .before .before .before .before .before .before .before .before .before .before .before) .left) (c .before .before .before .before .before .before .before .before .before .before .loop-test .taken)
+loop-less c = left-nearer (left ((ask-pair→in-loop (c .before .before .before .before)) .before) .left) ((ask-pair→in-loop (c .before .before .before .before)) .loop-test .taken)
 
 loop-again : tie.Need-loop-again Inv-loop μ-loop
-loop-again c = (
-  c .before .before .before .before .ask-pair .kept .1 .1 .1 .0 ∙ c .before .before .before .before .before .before .before .before .before .before .before .loop .inv .0,
-  c .before .before .before .before .ask-pair .kept .1 .1 .1 .1 .0 ∙ c .before .before .before .before .before .before .before .before .before .before .before .loop .inv .1,
-  λ w s p. outs-on (c .before .before .before .before .before .before .before .before .before .before .before .loop .inv .2 w s p) (c .before .before .before .before .before .before .before .before .before .before .loop-test .taken) (c .before .before .before .before .ask-pair .result) (c .before .before .before .before .ask-pair .ensures),
-)
+loop-again c =
+    let at-loop = (ask-pair→in-loop (c .before .before .before .before)) .before in (
+      c .before .before .before .before .ask-pair .kept .1 .1 .1 .0 ∙ at-loop .loop .inv .0,
+      c .before .before .before .before .ask-pair .kept .1 .1 .1 .1 .0 ∙ at-loop .loop .inv .1,
+      λ w s p. outs-on (at-loop .loop .inv .2 w s p) ((ask-pair→in-loop (c .before .before .before .before)) .loop-test .taken) (c .before .before .before .before .ask-pair .result) (c .before .before .before .before .ask-pair .ensures),
+    )
 
 same-length : tie.Need-same-length Inv-loop μ-loop
 same-length c = c .before .loop .inv .0

@@ -1,6 +1,6 @@
 -- Each return is a part of the table rules that fails, or all that hold.
 use mathlib.Core.Bool.{true≢false}
-use mathlib.Core.Path.{_≡_, sym, _∙_}
+use mathlib.Core.Path.{sym, _∙_}
 use native.Mathlib.Omega.{arith}
 use borrow.Author.Needs.{needs}
 use borrow.Author.Tests.{not-true, not-false}
@@ -12,9 +12,19 @@ use Rattle.tables.proofs.Check.{turned, broken, shape-of, entries-of, o
 use Rattle.tables.proofs.check_tables.Statement.{statement}
 use Rattle.tables.proofs.check_tables.Tie as tie
 
+-- Back from a place of the body to an earlier one.
+abbrev shared-known7→start : tie.After-shared-slice-known7 → tie.Start
+shared-known7→start c = c .before .before .before .before .before .before .before
+
+abbrev else1→start : tie.Else1 → tie.Start
+else1→start c = shared-known7→start (c .before .before .before .before .before .before .before)
+
+abbrev else7→shaped2 : tie.Else7 → tie.After-shaped2
+else7→shaped2 c = c .before .before .before .before .before .before .before
+
 -- past the tests of both tables' columns and starts
 shapes : (c : tie.Else4) →
-    let a = c .before .before .before .before .before .before .before .before .before .before .before .before .before .before .before .before .before .before .before .args in
+    let a = (else1→start (c .before .before .before .before .before)) .args in
     Shaped (a .n) (a .ranks .now)
     (columns (a .fwd-starts .now) (a .fwd-bases .now) (a .fwd-neighbours .now) (a .fwd-weights .now) (a .fwd-ins .now) (a .fwd-outs .now))
     (columns (a .bwd-starts .now) (a .bwd-bases .now) (a .bwd-neighbours .now) (a .bwd-weights .now) (a .bwd-ins .now) (a .bwd-outs .now))
@@ -67,9 +77,9 @@ returns-7 c = broken _ _ (λ k. denied (c .before .entries-pass2 .ensures) (not-
 returns-8 : tie.Need-returns-8
 unfolding table
 returns-8 c =
-    all-kept _ _ (c .before .before .before .before .before .before .before .before .before .before .before .if1 .left) (c .before .before .before .before .before .before .before .before .before .before .if2 .left) (sym (c .before .before .before .before .before .each-once .ensures) ∙ not-false _ (c .before .before .before .before .if5 .left))
-    (c .before .before .before .before .before .before .before .before .before .shaped .ensures .0 (not-false _ (c .before .before .before .before .before .before .before .before .if3 .left))) (c .before .before .before .entries-pass .ensures .0 (not-false _ (c .before .before .if6 .left)))
-    (c .before .before .before .before .before .before .before .shaped2 .ensures .0 (not-false _ (c .before .before .before .before .before .before .if4 .left))) (c .before .entries-pass2 .ensures .0 (not-false _ (c .if7 .left)))
+    all-kept _ _ ((else7→shaped2 c) .before .before .before .before .if1 .left) ((else7→shaped2 c) .before .before .before .if2 .left) (sym (c .before .before .before .before .before .each-once .ensures) ∙ not-false _ (c .before .before .before .before .if5 .left))
+    ((else7→shaped2 c) .before .before .shaped .ensures .0 (not-false _ ((else7→shaped2 c) .before .if3 .left))) (c .before .before .before .entries-pass .ensures .0 (not-false _ (c .before .before .if6 .left)))
+    ((else7→shaped2 c) .shaped2 .ensures .0 (not-false _ (c .before .before .before .before .before .before .if4 .left))) (c .before .entries-pass2 .ensures .0 (not-false _ (c .if7 .left)))
 
 pub check-tables-spec : {M : Type 1} → statement M
 check-tables-spec =

@@ -1,10 +1,7 @@
 -- The invariant: the entries of the ranks passed keep the rules.
-use mathlib.Core.Path.{_≡_}
-use Prim.Native.Nat.{ℕ, _+_, _-_, _≤_, _<_}
+use Prim.Native.Nat.{_+_, _-_, _≤_}
 use native.Mathlib.Omega.{arith}
-use borrow.Author.Needs.{needs}
 use borrow.Author.Tests.{not-true, not-false}
-use lib.ListN.{length}
 use Rattle.rules.proofs.Decides.{yes, no}
 use Rattle.tables.specs.Lent.{columns, side, sided}
 use Rattle.tables.specs.Shapes.{RanksRules}
@@ -18,44 +15,53 @@ Inv-loop forward n ranks s b m w i o ts tb tm tw ti to r₀ r = (r ≤ n) × Ran
 abbrev μ-loop : tie.MeasureT-loop
 μ-loop forward n ranks s b m w i o ts tb tm tw ti to r₀ r = n - r
 
+-- Back from a place of the body to an earlier one.
+abbrev shared-known7→start : tie.After-shared-slice-known7 Inv-loop μ-loop → tie.Start Inv-loop μ-loop
+shared-known7→start c = c .before .before .before .before .before .before .before
+
+abbrev at-loop→start : tie.At-loop Inv-loop μ-loop → tie.Start Inv-loop μ-loop
+at-loop→start c = shared-known7→start (c .before .before .before .before .before .before .before)
+
 loop-holds : tie.Need-loop-holds Inv-loop μ-loop
 loop-holds c = (omega arith, λ k low. absurd (omega arith))
 
 mul-rank-passes : tie.Need-mul-rank-passes Inv-loop μ-loop
-mul-rank-passes c = omega (arith, c .before .before .before .before .before .before .before .before .before .before .before .before .before .before .before .pre .nodes)
+mul-rank-passes c = omega (arith, (at-loop→start (c .before)) .pre .nodes)
 
 shared-slice-read-rank-passes : tie.Need-shared-slice-read-rank-passes Inv-loop μ-loop
-shared-slice-read-rank-passes c = omega (arith, c .before .before .before .before .before .before .before .before .before .before .before .before .before .before .before .before .pre .own-shape .places-for-starts)
+shared-slice-read-rank-passes c = omega (arith, (at-loop→start (c .before .before)) .pre .own-shape .places-for-starts)
 
 cast-rank-passes : tie.Need-cast-rank-passes Inv-loop μ-loop
 cast-rank-passes c = omega (arith, c .shared-slice-known14 .given (c .before .before .loop .r))
 
 add-rank-passes : tie.Need-add-rank-passes Inv-loop μ-loop
-add-rank-passes c = omega (arith, c .before .before .before .before .before .before .before .before .before .before .before .before .before .before .before .before .pre .nodes)
+add-rank-passes c = omega (arith, (at-loop→start (c .before .before)) .pre .nodes)
 
 mul-rank-passes-2 : tie.Need-mul-rank-passes-2 Inv-loop μ-loop
-mul-rank-passes-2 c = omega (arith, c .before .before .before .before .before .before .before .before .before .before .before .before .before .before .before .before .pre .nodes)
+mul-rank-passes-2 c = omega (arith, (at-loop→start (c .before .before)) .pre .nodes)
 
 shared-slice-read-rank-passes-2 : tie.Need-shared-slice-read-rank-passes-2 Inv-loop μ-loop
-shared-slice-read-rank-passes-2 c = omega (arith, c .before .before .before .before .before .before .before .before .before .before .before .before .before .before .before .before .before .pre .own-shape .places-for-starts)
+shared-slice-read-rank-passes-2 c = omega (arith, (at-loop→start (c .before .before .before)) .pre .own-shape .places-for-starts)
 
 cast-rank-passes-2 : tie.Need-cast-rank-passes-2 Inv-loop μ-loop
 cast-rank-passes-2 c = omega (arith, c .shared-slice-known15 .given (c .before .before .before .loop .r + 1))
 
 rank-passes-requires : tie.Need-rank-passes-requires Inv-loop μ-loop
-rank-passes-requires c κs = (c .before .before .before .before .before .before .before .before .before .before .before .before .before .before .before .before .before .pre, c .before .before .loop-test .taken, stretch-within _ _ _ _ (c .before .before .before .before .before .before .before .before .before .before .before .before .before .before .before .before .before .pre) (side (c .before .before .before .before .before .before .before .before .before .before .before .before .before .before .before .before .before .args .forward)) _ (c .before .before .loop-test .taken))
+rank-passes-requires c κs =
+    let start = at-loop→start (c .before .before .before) in
+    (start .pre, c .before .before .loop-test .taken, stretch-within _ _ _ _ (start .pre) (side (start .args .forward)) _ (c .before .before .loop-test .taken))
 
 returns : tie.Need-returns Inv-loop μ-loop
-returns c = no (rank-fails _ _ _ _ (c .before .before .before .before .before .before .before .before .before .before .before .before .before .before .before .before .before .before .before .pre) _ _ (c .before .before .before .before .loop-test .taken) (c .before .rank-passes .ensures) (not-true _ (c .if1 .taken)))
+returns c = no (rank-fails _ _ _ _ ((at-loop→start (c .before .before .before .before .before)) .pre) _ _ (c .before .before .before .before .loop-test .taken) (c .before .rank-passes .ensures) (not-true _ (c .if1 .taken)))
 
 add-r : tie.Need-add-r Inv-loop μ-loop
-add-r c = omega (arith, c .before .before .before .before .before .before .before .before .before .before .before .before .before .before .before .before .before .before .before .pre .nodes)
+add-r c = omega (arith, (at-loop→start (c .before .before .before .before .before)) .pre .nodes)
 
 loop-less : tie.Need-loop-less Inv-loop μ-loop
 loop-less c = omega arith
 
 loop-again : tie.Need-loop-again Inv-loop μ-loop
-loop-again c = (omega arith, rank-holds _ _ _ _ (c .before .before .before .before .before .before .before .before .before .before .before .before .before .before .before .before .before .before .before .pre) _ _ (c .before .before .before .before .loop-test .taken) (c .before .rank-passes .ensures) (not-false _ (c .if1 .left)) (c .before .before .before .before .before .loop .inv .1))
+loop-again c = (omega arith, rank-holds _ _ _ _ ((at-loop→start (c .before .before .before .before .before)) .pre) _ _ (c .before .before .before .before .loop-test .taken) (c .before .rank-passes .ensures) (not-false _ (c .if1 .left)) (c .before .before .before .before .before .loop .inv .1))
 
 returns-2 : tie.Need-returns-2 Inv-loop μ-loop
 returns-2 c = yes (λ k low. c .before .loop .inv .1 k (omega (arith, c .loop-test .left)))

@@ -8,6 +8,16 @@ use Rattle.rules.proofs.Decides.{no}
 use Rattle.tables.proofs.opens.Statement.{statement}
 use Rattle.tables.proofs.opens.Tie as tie
 
+-- Back from a place of the body to an earlier one.
+abbrev else3→else2 : tie.Else3 → tie.Else2
+else3→else2 c = c .before .before .before
+
+abbrev else7→else2 : tie.Else7 → tie.Else2
+else7→else2 c = else3→else2 (c .before .before .before .before .before .before .before)
+
+abbrev else8→else5 : tie.Else8 → tie.Else5
+else8→else5 c = c .before .before .before .before .before .before
+
 mul-if1 : tie.Need-mul-if1
 mul-if1 c = search needs
 
@@ -42,7 +52,7 @@ returns-3 : tie.Need-returns-3
 returns-3 c = no (λ f. omega (arith, f .one-node, c .if3 .taken))
 
 cast-m : tie.Need-cast-m
-cast-m c = omega (arith, c .before .before .shared-slice-known3 .given (c .before .before .before .before .before .before .before .args .a))
+cast-m c = omega (arith, c .before .before .shared-slice-known3 .given ((else3→else2 c) .before .before .before .before .args .a))
 
 returns-4 : tie.Need-returns-4
 returns-4 c = no (λ f. omega (arith, f .ranked, c .if4 .taken))
@@ -54,7 +64,9 @@ shared-slice-read-if5 : tie.Need-shared-slice-read-if5
 shared-slice-read-if5 c = search needs
 
 cast-if5 : tie.Need-cast-if5
-cast-if5 c = omega (arith, c .shared-slice-known5 .given (getD (c .before .before .before .before .before .before .before .before .before .args .bb .now) (c .before .before .before .before .before .before .before .before .before .args .a) 0))
+cast-if5 c =
+    let start = (else3→else2 (c .before .before)) .before .before .before .before in
+    omega (arith, c .shared-slice-known5 .given (getD (start .args .bb .now) (start .args .a) 0))
 
 returns-5 : tie.Need-returns-5
 returns-5 c = no (λ f. omega (arith, f .lower, c .if5 .taken))
@@ -94,16 +106,16 @@ shared-slice-read-result c = search needs
 
 returns-9 : tie.Need-returns-9
 returns-9 c =
-    let a = c .before .before .before .before .before .before .before .before .before .before .before .before .before .before .before .before .before .args in
+    let a = (else7→else2 (c .before .before .before)) .before .before .before .before .args in
     let first = getD (a .bw .now) (a .a) 0 in
     let second = getD (a .fw .now) (a .b) 0 in (
       λ t.
           record {
-            in-used = c .before .before .before .before .before .before .before .before .before .before .before .before .before .before .before .if1 .left;
-            out-used = c .before .before .before .before .before .before .before .before .before .before .before .before .before .if2 .left;
-            one-node = omega (arith, c .before .before .before .before .before .before .before .before .before .before .if3 .left);
-            ranked = c .before .before .before .before .before .before .before .before .before .if4 .left;
-            lower = c .before .before .before .before .before .before .before .if5 .left;
+            in-used = (else7→else2 (c .before .before .before)) .before .before .if1 .left;
+            out-used = (else7→else2 (c .before .before .before)) .if2 .left;
+            one-node = omega (arith, (else8→else5 (c .before)) .before .before .before .if3 .left);
+            ranked = (else8→else5 (c .before)) .before .before .if4 .left;
+            lower = (else8→else5 (c .before)) .if5 .left;
             from-tail = c .before .before .before .before .before .if6 .left;
             to-head = c .before .before .before .if7 .left;
             sum = omega (arith, eqb-true second (a .weight - first) t, c .before .if8 .left);

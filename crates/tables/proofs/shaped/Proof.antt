@@ -7,6 +7,13 @@ use Rattle.rules.proofs.Decides.{no, decides-as}
 use Rattle.tables.proofs.shaped.Statement.{statement}
 use Rattle.tables.proofs.shaped.Tie as tie
 
+-- Back from a place of the body to an earlier one.
+abbrev else6→else1 : tie.Else6 → tie.Else1
+else6→else1 c = c .before .before .before .before .before .before
+
+abbrev never-fall→else4 : tie.After-never-fall → tie.Else4
+never-fall→else4 c = c .before .before .before .before .before .before
+
 returns : tie.Need-returns
 unfolding room
 returns c = no (λ f. c .if1 .taken (f .columns .neighbours))
@@ -40,7 +47,7 @@ shared-slice-read-if7 : tie.Need-shared-slice-read-if7
 shared-slice-read-if7 c = search needs
 
 cast-if7 : tie.Need-cast-if7
-cast-if7 c = omega (arith, c .shared-slice-known8 .given (c .before .before .before .before .before .before .before .before .before .before .before .before .before .before .args .n))
+cast-if7 c = omega (arith, c .shared-slice-known8 .given ((else6→else1 (c .before)) .before .before .before .before .before .before .before .args .n))
 
 returns-7 : tie.Need-returns-7
 unfolding used begin room
@@ -55,7 +62,7 @@ returns-8 c =
     decides-as (c .never-fall .ensures) (
       λ f.
           record {
-            columns = record { neighbours = c .before .before .before .before .before .before .before .before .before .if1 .left; weights = c .before .before .before .before .before .before .before .before .if2 .left; in-numbers = c .before .before .before .before .before .before .before .if3 .left; out-numbers = c .before .before .before .before .before .before .if4 .left };
+            columns = record { neighbours = (else6→else1 (c .before .before .before)) .if1 .left; weights = (never-fall→else4 c) .before .before .if2 .left; in-numbers = (never-fall→else4 c) .before .if3 .left; out-numbers = (never-fall→else4 c) .if4 .left };
             places-for-starts = c .before .before .before .before .before .if5 .left;
             begin-at-0 = c .before .before .before .if6 .left;
             never-fall = f;

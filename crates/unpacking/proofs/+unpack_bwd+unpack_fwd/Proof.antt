@@ -1,12 +1,9 @@
 -- The two functions of unpacking meet their contracts. The measure is the rank of the entry's base, which falls with each call.
-use mathlib.Core.Path.{_≡_, _∙_}
 use native.Mathlib.Omega.{arith}
 use borrow.Author.Needs.{needs}
-use lib.ListN.{length-set}
 use Rattle.rules.specs.Columns.{forward, backward, table, entry, rank, begin}
 use Rattle.rules.specs.TableRules.{tail-of, used}
 use Rattle.tables.specs.Lent.{columns, lent}
-use Rattle.unpacking.specs.Written.{written}
 use Rattle.unpacking.proofs.Opened.{put-none, put-one, put-past, base-room, neighbour-room, in-room, out-room, plain, open-in, open-out, in-lower, out-lower, both, first-within, rest-fits, both-within, put-both}
 use Prim.Native.Nat.{ℕ, _<_}
 use borrow.Fn.Kinds.{In}
@@ -46,108 +43,108 @@ abbrev unpack-fwd-below : ℕ → In 14 unpack-fwd-kinds.ps
 unpack-fwd-below t =
     and 14 unpack-fwd-kinds.ps (falls 14 unpack-fwd-kinds.ps _<_ μ-unpack-fwd t) unpack-fwd.Pre
 
-unpack-bwd-returns : (t : ℕ) → unpack-bwd-lts.Need-returns (
+-- What the calls in the body ask and promise, below a measure of `t`.
+abbrev unpack-fwd-claims : ℕ → unpack-fwd-lts.Claims
+unpack-fwd-claims t = (
   unpack-bwd-below t,
   unpack-bwd.Post,
   unpack-fwd-below t,
   unpack-fwd.Post,
-) (unpack-bwd-at t) unpack-bwd.Post
+)
+
+-- What the calls in the body ask and promise, below a measure of `t`.
+abbrev unpack-bwd-claims : ℕ → unpack-bwd-lts.Claims
+unpack-bwd-claims t = (
+  unpack-bwd-below t,
+  unpack-bwd.Post,
+  unpack-fwd-below t,
+  unpack-fwd.Post,
+)
+
+-- Back from a place of the body to an earlier one.
+abbrev unpack-bwd-shared-known7→start : (t : ℕ) → unpack-bwd-lts.After-shared-slice-known7 (unpack-bwd-claims t) (unpack-bwd-at t) unpack-bwd.Post → unpack-bwd-lts.Start (unpack-bwd-claims t) (unpack-bwd-at t) unpack-bwd.Post
+unpack-bwd-shared-known7→start t c = c .before .before .before .before .before .before .before
+
+abbrev unpack-bwd-else1→shared-known8 : (t : ℕ) → unpack-bwd-lts.Else1 (unpack-bwd-claims t) (unpack-bwd-at t) unpack-bwd.Post → unpack-bwd-lts.After-shared-slice-known8 (unpack-bwd-claims t) (unpack-bwd-at t) unpack-bwd.Post
+unpack-bwd-else1→shared-known8 t c = c .before .before .before .before .before .before .before
+
+abbrev unpack-bwd-else1→start : (t : ℕ) → unpack-bwd-lts.Else1 (unpack-bwd-claims t) (unpack-bwd-at t) unpack-bwd.Post → unpack-bwd-lts.Start (unpack-bwd-claims t) (unpack-bwd-at t) unpack-bwd.Post
+unpack-bwd-else1→start t c = unpack-bwd-shared-known7→start t ((unpack-bwd-else1→shared-known8 t c) .before)
+
+abbrev unpack-bwd-unpack-bwd→start : (t : ℕ) → unpack-bwd-lts.After-unpack-bwd (unpack-bwd-claims t) (unpack-bwd-at t) unpack-bwd.Post → unpack-bwd-lts.Start (unpack-bwd-claims t) (unpack-bwd-at t) unpack-bwd.Post
+unpack-bwd-unpack-bwd→start t c = unpack-bwd-else1→start t (c .before .before .before .before)
+
+abbrev unpack-bwd-unpack-fwd→unpack-bwd : (t : ℕ) → unpack-bwd-lts.After-unpack-fwd (unpack-bwd-claims t) (unpack-bwd-at t) unpack-bwd.Post → unpack-bwd-lts.After-unpack-bwd (unpack-bwd-claims t) (unpack-bwd-at t) unpack-bwd.Post
+unpack-bwd-unpack-fwd→unpack-bwd t c = c .before .before .before .before .before
+
+abbrev unpack-bwd-unpack-fwd→start : (t : ℕ) → unpack-bwd-lts.After-unpack-fwd (unpack-bwd-claims t) (unpack-bwd-at t) unpack-bwd.Post → unpack-bwd-lts.Start (unpack-bwd-claims t) (unpack-bwd-at t) unpack-bwd.Post
+unpack-bwd-unpack-fwd→start t c = unpack-bwd-unpack-bwd→start t (unpack-bwd-unpack-fwd→unpack-bwd t c)
+
+abbrev unpack-fwd-shared-known7→start : (t : ℕ) → unpack-fwd-lts.After-shared-slice-known7 (unpack-fwd-claims t) (unpack-fwd-at t) unpack-fwd.Post → unpack-fwd-lts.Start (unpack-fwd-claims t) (unpack-fwd-at t) unpack-fwd.Post
+unpack-fwd-shared-known7→start t c = c .before .before .before .before .before .before .before
+
+abbrev unpack-fwd-else1→shared-known8 : (t : ℕ) → unpack-fwd-lts.Else1 (unpack-fwd-claims t) (unpack-fwd-at t) unpack-fwd.Post → unpack-fwd-lts.After-shared-slice-known8 (unpack-fwd-claims t) (unpack-fwd-at t) unpack-fwd.Post
+unpack-fwd-else1→shared-known8 t c = c .before .before .before .before .before .before .before
+
+abbrev unpack-fwd-else1→start : (t : ℕ) → unpack-fwd-lts.Else1 (unpack-fwd-claims t) (unpack-fwd-at t) unpack-fwd.Post → unpack-fwd-lts.Start (unpack-fwd-claims t) (unpack-fwd-at t) unpack-fwd.Post
+unpack-fwd-else1→start t c = unpack-fwd-shared-known7→start t ((unpack-fwd-else1→shared-known8 t c) .before)
+
+abbrev unpack-fwd-unpack-bwd→start : (t : ℕ) → unpack-fwd-lts.After-unpack-bwd (unpack-fwd-claims t) (unpack-fwd-at t) unpack-fwd.Post → unpack-fwd-lts.Start (unpack-fwd-claims t) (unpack-fwd-at t) unpack-fwd.Post
+unpack-fwd-unpack-bwd→start t c = unpack-fwd-else1→start t (c .before .before .before .before)
+
+abbrev unpack-fwd-unpack-fwd→unpack-bwd : (t : ℕ) → unpack-fwd-lts.After-unpack-fwd (unpack-fwd-claims t) (unpack-fwd-at t) unpack-fwd.Post → unpack-fwd-lts.After-unpack-bwd (unpack-fwd-claims t) (unpack-fwd-at t) unpack-fwd.Post
+unpack-fwd-unpack-fwd→unpack-bwd t c = c .before .before .before .before .before
+
+abbrev unpack-fwd-unpack-fwd→start : (t : ℕ) → unpack-fwd-lts.After-unpack-fwd (unpack-fwd-claims t) (unpack-fwd-at t) unpack-fwd.Post → unpack-fwd-lts.Start (unpack-fwd-claims t) (unpack-fwd-at t) unpack-fwd.Post
+unpack-fwd-unpack-fwd→start t c = unpack-fwd-unpack-bwd→start t (unpack-fwd-unpack-fwd→unpack-bwd t c)
+
+unpack-bwd-returns : (t : ℕ) → unpack-bwd-lts.Need-returns (unpack-bwd-claims t) (unpack-bwd-at t) unpack-bwd.Post
 unpack-bwd-returns t c = put-none _ _ _ _ (c .if1 .taken)
 
-unpack-bwd-mul-a : (t : ℕ) → unpack-bwd-lts.Need-mul-a (
-  unpack-bwd-below t,
-  unpack-bwd.Post,
-  unpack-fwd-below t,
-  unpack-fwd.Post,
-) (unpack-bwd-at t) unpack-bwd.Post
+unpack-bwd-mul-a : (t : ℕ) → unpack-bwd-lts.Need-mul-a (unpack-bwd-claims t) (unpack-bwd-at t) unpack-bwd.Post
 unpack-bwd-mul-a t c = search needs
 
-unpack-bwd-shared-slice-read-a : (t : ℕ) → unpack-bwd-lts.Need-shared-slice-read-a (
-  unpack-bwd-below t,
-  unpack-bwd.Post,
-  unpack-fwd-below t,
-  unpack-fwd.Post,
-) (unpack-bwd-at t) unpack-bwd.Post
+unpack-bwd-shared-slice-read-a : (t : ℕ) → unpack-bwd-lts.Need-shared-slice-read-a (unpack-bwd-claims t) (unpack-bwd-at t) unpack-bwd.Post
 unfolding table
-unpack-bwd-shared-slice-read-a t c = in-room _ _ _ _ (c .before .before .before .before .before .before .before .before .before .before .before .before .before .before .before .before .pre .1 .entry)
+unpack-bwd-shared-slice-read-a t c = in-room _ _ _ _ ((unpack-bwd-else1→start t (c .before)) .pre .1 .entry)
 
-unpack-bwd-mul-path : (t : ℕ) → unpack-bwd-lts.Need-mul-path (
-  unpack-bwd-below t,
-  unpack-bwd.Post,
-  unpack-fwd-below t,
-  unpack-fwd.Post,
-) (unpack-bwd-at t) unpack-bwd.Post
+unpack-bwd-mul-path : (t : ℕ) → unpack-bwd-lts.Need-mul-path (unpack-bwd-claims t) (unpack-bwd-at t) unpack-bwd.Post
 unpack-bwd-mul-path t c = search needs
 
-unpack-bwd-shared-slice-read-path : (t : ℕ) → unpack-bwd-lts.Need-shared-slice-read-path (
-  unpack-bwd-below t,
-  unpack-bwd.Post,
-  unpack-fwd-below t,
-  unpack-fwd.Post,
-) (unpack-bwd-at t) unpack-bwd.Post
+unpack-bwd-shared-slice-read-path : (t : ℕ) → unpack-bwd-lts.Need-shared-slice-read-path (unpack-bwd-claims t) (unpack-bwd-at t) unpack-bwd.Post
 unfolding table
-unpack-bwd-shared-slice-read-path t c = neighbour-room _ _ _ _ (c .before .before .before .before .before .before .before .before .before .before .before .before .before .before .before .before .before .before .before .pre .1 .entry)
+unpack-bwd-shared-slice-read-path t c = neighbour-room _ _ _ _ ((unpack-bwd-else1→start t (c .before .before .before .before)) .pre .1 .entry)
 
-unpack-bwd-mul-path-2 : (t : ℕ) → unpack-bwd-lts.Need-mul-path-2 (
-  unpack-bwd-below t,
-  unpack-bwd.Post,
-  unpack-fwd-below t,
-  unpack-fwd.Post,
-) (unpack-bwd-at t) unpack-bwd.Post
+unpack-bwd-mul-path-2 : (t : ℕ) → unpack-bwd-lts.Need-mul-path-2 (unpack-bwd-claims t) (unpack-bwd-at t) unpack-bwd.Post
 unpack-bwd-mul-path-2 t c = search needs
 
-unpack-bwd-slice-write-path : (t : ℕ) → unpack-bwd-lts.Need-slice-write-path (
-  unpack-bwd-below t,
-  unpack-bwd.Post,
-  unpack-fwd-below t,
-  unpack-fwd.Post,
-) (unpack-bwd-at t) unpack-bwd.Post
+unpack-bwd-slice-write-path : (t : ℕ) → unpack-bwd-lts.Need-slice-write-path (unpack-bwd-claims t) (unpack-bwd-at t) unpack-bwd.Post
 unpack-bwd-slice-write-path t c = c .before .if3 .taken
 
-unpack-bwd-same-length : (t : ℕ) → unpack-bwd-lts.Need-same-length (
-  unpack-bwd-below t,
-  unpack-bwd.Post,
-  unpack-fwd-below t,
-  unpack-fwd.Post,
-) (unpack-bwd-at t) unpack-bwd.Post
+unpack-bwd-same-length : (t : ℕ) → unpack-bwd-lts.Need-same-length (unpack-bwd-claims t) (unpack-bwd-at t) unpack-bwd.Post
 unpack-bwd-same-length t c = search needs
 
-unpack-bwd-returns-2 : (t : ℕ) → unpack-bwd-lts.Need-returns-2 (
-  unpack-bwd-below t,
-  unpack-bwd.Post,
-  unpack-fwd-below t,
-  unpack-fwd.Post,
-) (unpack-bwd-at t) unpack-bwd.Post
+unpack-bwd-returns-2 : (t : ℕ) → unpack-bwd-lts.Need-returns-2 (unpack-bwd-claims t) (unpack-bwd-at t) unpack-bwd.Post
 unfolding table tail-of used begin
-unpack-bwd-returns-2 t c = rw (plain _ _ _ _ (c .before .before .before .before .before .before .before .before .before .before .before .before .before .before .before .before .before .before .before .pre .1 .entry) (omega (arith, c .before .before .before .before .before .before .before .before .before .before .before .shared-slice-known8 .given (c .before .before .before .before .before .before .before .before .before .before .before .before .before .before .before .before .before .before .before .args .n))) (c .before .before .if2 .taken)) (put-one _ _ _ _ (c .before .before .before .before .if1 .left))
+unpack-bwd-returns-2 t c =
+    let start = unpack-bwd-else1→start t (c .before .before .before .before) in
+    rw (plain _ _ _ _ (start .pre .1 .entry) (omega (arith, (unpack-bwd-else1→shared-known8 t (c .before .before .before .before)) .shared-slice-known8 .given (start .args .n))) (c .before .before .if2 .taken)) (put-one _ _ _ _ (c .before .before .before .before .if1 .left))
 
-unpack-bwd-returns-3 : (t : ℕ) → unpack-bwd-lts.Need-returns-3 (
-  unpack-bwd-below t,
-  unpack-bwd.Post,
-  unpack-fwd-below t,
-  unpack-fwd.Post,
-) (unpack-bwd-at t) unpack-bwd.Post
+unpack-bwd-returns-3 : (t : ℕ) → unpack-bwd-lts.Need-returns-3 (unpack-bwd-claims t) (unpack-bwd-at t) unpack-bwd.Post
 unfolding table tail-of used begin
-unpack-bwd-returns-3 t c = rw (plain _ _ _ _ (c .before .before .before .before .before .before .before .before .before .before .before .before .before .before .before .before .before .before .pre .1 .entry) (omega (arith, c .before .before .before .before .before .before .before .before .before .before .shared-slice-known8 .given (c .before .before .before .before .before .before .before .before .before .before .before .before .before .before .before .before .before .before .args .n))) (c .before .if2 .taken)) (put-past _ _ _ _ (c .before .before .before .if1 .left) (c .if3 .left))
+unpack-bwd-returns-3 t c =
+    let start = unpack-bwd-else1→start t (c .before .before .before) in
+    rw (plain _ _ _ _ (start .pre .1 .entry) (omega (arith, (unpack-bwd-else1→shared-known8 t (c .before .before .before)) .shared-slice-known8 .given (start .args .n))) (c .before .if2 .taken)) (put-past _ _ _ _ (c .before .before .before .if1 .left) (c .if3 .left))
 
-unpack-bwd-unpack-bwd-requires : (t : ℕ) → unpack-bwd-lts.Need-unpack-bwd-requires (
-  unpack-bwd-below t,
-  unpack-bwd.Post,
-  unpack-fwd-below t,
-  unpack-fwd.Post,
-) (unpack-bwd-at t) unpack-bwd.Post
+unpack-bwd-unpack-bwd-requires : (t : ℕ) → unpack-bwd-lts.Need-unpack-bwd-requires (unpack-bwd-claims t) (unpack-bwd-at t) unpack-bwd.Post
 unfolding table
 unpack-bwd-unpack-bwd-requires t c κs =
-    let u = c .before .before .before .before .before .before .before .before .before .before .before .before .before .before .before .before .before .before .pre .1 .entry in
+    let start = unpack-bwd-else1→start t (c .before .before .before) in
+    let u = start .pre .1 .entry in
     let m = c .before .if2 .left in
-    (rw (← c .before .before .before .before .before .before .before .before .before .before .before .before .before .before .before .before .before .before .pre .0) (in-lower _ _ _ _ u m), record { entry = open-in _ _ _ _ u m; fits = c .before .before .before .before .before .before .before .before .before .before .before .before .before .before .before .before .before .before .pre .1 .fits })
+    (rw (← start .pre .0) (in-lower _ _ _ _ u m), record { entry = open-in _ _ _ _ u m; fits = start .pre .1 .fits })
 
-unpack-bwd-mul-unpack-fwd : (t : ℕ) → unpack-bwd-lts.Need-mul-unpack-fwd (
-  unpack-bwd-below t,
-  unpack-bwd.Post,
-  unpack-fwd-below t,
-  unpack-fwd.Post,
-) (unpack-bwd-at t) unpack-bwd.Post
+unpack-bwd-mul-unpack-fwd : (t : ℕ) → unpack-bwd-lts.Need-mul-unpack-fwd (unpack-bwd-claims t) (unpack-bwd-at t) unpack-bwd.Post
 unpack-bwd-mul-unpack-fwd t c = search needs
 
 unpack-bwd-shared-slice-read-unpack-fwd :
@@ -158,183 +155,103 @@ unpack-bwd-shared-slice-read-unpack-fwd :
       unpack-fwd.Post,
     ) (unpack-bwd-at t) unpack-bwd.Post
 unfolding table
-unpack-bwd-shared-slice-read-unpack-fwd t c = out-room _ _ _ _ (c .before .before .before .before .before .before .before .before .before .before .before .before .before .before .before .before .before .before .before .before .before .before .pre .1 .entry)
+unpack-bwd-shared-slice-read-unpack-fwd t c = out-room _ _ _ _ ((unpack-bwd-unpack-bwd→start t (c .before .before .before)) .pre .1 .entry)
 
-unpack-bwd-add-unpack-fwd : (t : ℕ) → unpack-bwd-lts.Need-add-unpack-fwd (
-  unpack-bwd-below t,
-  unpack-bwd.Post,
-  unpack-fwd-below t,
-  unpack-fwd.Post,
-) (unpack-bwd-at t) unpack-bwd.Post
+unpack-bwd-add-unpack-fwd : (t : ℕ) → unpack-bwd-lts.Need-add-unpack-fwd (unpack-bwd-claims t) (unpack-bwd-at t) unpack-bwd.Post
 unfolding table
 unpack-bwd-add-unpack-fwd t c =
-    let u = c .before .before .before .before .before .before .before .before .before .before .before .before .before .before .before .before .before .before .before .before .before .before .before .pre .1 .entry in
+    let start = unpack-bwd-unpack-bwd→start t (c .before .before .before .before) in
+    let u = start .pre .1 .entry in
     let m = c .before .before .before .before .before .before .if2 .left in
     let p = c .before .before .before .before .unpack-bwd .ensures in
-    omega (arith, first-within _ _ _ (both _ _ _ _ u m) _ _ (c .before .before .before .before .before .before .before .before .before .before .before .before .before .before .before .before .before .before .before .before .before .before .before .pre .1 .fits) _ _ _ p, c .before .before .before .before .before .before .before .before .before .before .before .before .before .before .before .before .before .before .before .before .before .before .before .pre .1 .fits)
+    omega (arith, first-within _ _ _ (both _ _ _ _ u m) _ _ (start .pre .1 .fits) _ _ _ p, start .pre .1 .fits)
 
-unpack-bwd-sub-unpack-fwd : (t : ℕ) → unpack-bwd-lts.Need-sub-unpack-fwd (
-  unpack-bwd-below t,
-  unpack-bwd.Post,
-  unpack-fwd-below t,
-  unpack-fwd.Post,
-) (unpack-bwd-at t) unpack-bwd.Post
+unpack-bwd-sub-unpack-fwd : (t : ℕ) → unpack-bwd-lts.Need-sub-unpack-fwd (unpack-bwd-claims t) (unpack-bwd-at t) unpack-bwd.Post
 unfolding table
 unpack-bwd-sub-unpack-fwd t c =
-    let u = c .before .before .before .before .before .before .before .before .before .before .before .before .before .before .before .before .before .before .before .before .before .before .before .pre .1 .entry in
+    let start = unpack-bwd-unpack-bwd→start t (c .before .before .before .before) in
+    let u = start .pre .1 .entry in
     let m = c .before .before .before .before .before .before .if2 .left in
     let p = c .before .before .before .before .unpack-bwd .ensures in
-    first-within _ _ _ (both _ _ _ _ u m) _ _ (c .before .before .before .before .before .before .before .before .before .before .before .before .before .before .before .before .before .before .before .before .before .before .before .pre .1 .fits) _ _ _ p
+    first-within _ _ _ (both _ _ _ _ u m) _ _ (start .pre .1 .fits) _ _ _ p
 
-unpack-bwd-unpack-fwd-requires : (t : ℕ) → unpack-bwd-lts.Need-unpack-fwd-requires (
-  unpack-bwd-below t,
-  unpack-bwd.Post,
-  unpack-fwd-below t,
-  unpack-fwd.Post,
-) (unpack-bwd-at t) unpack-bwd.Post
+unpack-bwd-unpack-fwd-requires : (t : ℕ) → unpack-bwd-lts.Need-unpack-fwd-requires (unpack-bwd-claims t) (unpack-bwd-at t) unpack-bwd.Post
 unfolding table
 unpack-bwd-unpack-fwd-requires t c κs =
-    let u = c .before .before .before .before .before .before .before .before .before .before .before .before .before .before .before .before .before .before .before .before .before .before .before .pre .1 .entry in
+    let start = unpack-bwd-unpack-bwd→start t (c .before .before .before .before) in
+    let u = start .pre .1 .entry in
     let m = c .before .before .before .before .before .before .if2 .left in
     let p = c .before .before .before .before .unpack-bwd .ensures in
-    (rw (← c .before .before .before .before .before .before .before .before .before .before .before .before .before .before .before .before .before .before .before .before .before .before .before .pre .0) (out-lower _ _ _ _ u m), record { entry = open-out _ _ _ _ u m; fits = rest-fits _ _ _ (both _ _ _ _ u m) _ _ (c .before .before .before .before .before .before .before .before .before .before .before .before .before .before .before .before .before .before .before .before .before .before .before .pre .1 .fits) _ _ _ p })
+    (rw (← start .pre .0) (out-lower _ _ _ _ u m), record { entry = open-out _ _ _ _ u m; fits = rest-fits _ _ _ (both _ _ _ _ u m) _ _ (start .pre .1 .fits) _ _ _ p })
 
-unpack-bwd-add-result : (t : ℕ) → unpack-bwd-lts.Need-add-result (
-  unpack-bwd-below t,
-  unpack-bwd.Post,
-  unpack-fwd-below t,
-  unpack-fwd.Post,
-) (unpack-bwd-at t) unpack-bwd.Post
+unpack-bwd-add-result : (t : ℕ) → unpack-bwd-lts.Need-add-result (unpack-bwd-claims t) (unpack-bwd-at t) unpack-bwd.Post
 unfolding table
 unpack-bwd-add-result t c =
-    let u = c .before .before .before .before .before .before .before .before .before .before .before .before .before .before .before .before .before .before .before .before .before .before .before .before .before .before .pre .1 .entry in
-    let m = c .before .before .before .before .before .before .before .before .before .if2 .left in
-    let p = c .before .before .before .before .before .before .before .unpack-bwd .ensures in
-    omega (arith, both-within _ _ _ (both _ _ _ _ u m) _ _ (c .before .before .before .before .before .before .before .before .before .before .before .before .before .before .before .before .before .before .before .before .before .before .before .before .before .before .pre .1 .fits) _ _ _ p _ _ (c .before .before .unpack-fwd .ensures))
+    let start = unpack-bwd-unpack-fwd→start t (c .before .before) in
+    let u = start .pre .1 .entry in
+    let m = (unpack-bwd-unpack-fwd→unpack-bwd t (c .before .before)) .before .before .if2 .left in
+    let p = (unpack-bwd-unpack-fwd→unpack-bwd t (c .before .before)) .unpack-bwd .ensures in
+    omega (arith, both-within _ _ _ (both _ _ _ _ u m) _ _ (start .pre .1 .fits) _ _ _ p _ _ (c .before .before .unpack-fwd .ensures))
 
-unpack-bwd-same-length-2 : (t : ℕ) → unpack-bwd-lts.Need-same-length-2 (
-  unpack-bwd-below t,
-  unpack-bwd.Post,
-  unpack-fwd-below t,
-  unpack-fwd.Post,
-) (unpack-bwd-at t) unpack-bwd.Post
+unpack-bwd-same-length-2 : (t : ℕ) → unpack-bwd-lts.Need-same-length-2 (unpack-bwd-claims t) (unpack-bwd-at t) unpack-bwd.Post
 unpack-bwd-same-length-2 t c = search needs
 
-unpack-bwd-returns-4 : (t : ℕ) → unpack-bwd-lts.Need-returns-4 (
-  unpack-bwd-below t,
-  unpack-bwd.Post,
-  unpack-fwd-below t,
-  unpack-fwd.Post,
-) (unpack-bwd-at t) unpack-bwd.Post
+unpack-bwd-returns-4 : (t : ℕ) → unpack-bwd-lts.Need-returns-4 (unpack-bwd-claims t) (unpack-bwd-at t) unpack-bwd.Post
 unfolding table
 unpack-bwd-returns-4 t c =
-    let u = c .before .before .before .before .before .before .before .before .before .before .before .before .before .before .before .before .before .before .before .before .before .before .before .before .before .before .pre .1 .entry in
-    let m = c .before .before .before .before .before .before .before .before .before .if2 .left in
-    let p = c .before .before .before .before .before .before .before .unpack-bwd .ensures in
-    put-both _ _ _ (both _ _ _ _ u m) _ _ (c .before .before .before .before .before .before .before .before .before .before .before .before .before .before .before .before .before .before .before .before .before .before .before .before .before .before .pre .1 .fits) _ _ _ p _ _ (c .before .before .unpack-fwd .ensures)
+    let start = unpack-bwd-unpack-fwd→start t (c .before .before) in
+    let u = start .pre .1 .entry in
+    let m = (unpack-bwd-unpack-fwd→unpack-bwd t (c .before .before)) .before .before .if2 .left in
+    let p = (unpack-bwd-unpack-fwd→unpack-bwd t (c .before .before)) .unpack-bwd .ensures in
+    put-both _ _ _ (both _ _ _ _ u m) _ _ (start .pre .1 .fits) _ _ _ p _ _ (c .before .before .unpack-fwd .ensures)
 
-unpack-fwd-returns : (t : ℕ) → unpack-fwd-lts.Need-returns (
-  unpack-bwd-below t,
-  unpack-bwd.Post,
-  unpack-fwd-below t,
-  unpack-fwd.Post,
-) (unpack-fwd-at t) unpack-fwd.Post
+unpack-fwd-returns : (t : ℕ) → unpack-fwd-lts.Need-returns (unpack-fwd-claims t) (unpack-fwd-at t) unpack-fwd.Post
 unpack-fwd-returns t c = put-none _ _ _ _ (c .if1 .taken)
 
-unpack-fwd-mul-a : (t : ℕ) → unpack-fwd-lts.Need-mul-a (
-  unpack-bwd-below t,
-  unpack-bwd.Post,
-  unpack-fwd-below t,
-  unpack-fwd.Post,
-) (unpack-fwd-at t) unpack-fwd.Post
+unpack-fwd-mul-a : (t : ℕ) → unpack-fwd-lts.Need-mul-a (unpack-fwd-claims t) (unpack-fwd-at t) unpack-fwd.Post
 unpack-fwd-mul-a t c = search needs
 
-unpack-fwd-shared-slice-read-a : (t : ℕ) → unpack-fwd-lts.Need-shared-slice-read-a (
-  unpack-bwd-below t,
-  unpack-bwd.Post,
-  unpack-fwd-below t,
-  unpack-fwd.Post,
-) (unpack-fwd-at t) unpack-fwd.Post
+unpack-fwd-shared-slice-read-a : (t : ℕ) → unpack-fwd-lts.Need-shared-slice-read-a (unpack-fwd-claims t) (unpack-fwd-at t) unpack-fwd.Post
 unfolding table
-unpack-fwd-shared-slice-read-a t c = in-room _ _ _ _ (c .before .before .before .before .before .before .before .before .before .before .before .before .before .before .before .before .pre .1 .entry)
+unpack-fwd-shared-slice-read-a t c = in-room _ _ _ _ ((unpack-fwd-else1→start t (c .before)) .pre .1 .entry)
 
-unpack-fwd-mul-path : (t : ℕ) → unpack-fwd-lts.Need-mul-path (
-  unpack-bwd-below t,
-  unpack-bwd.Post,
-  unpack-fwd-below t,
-  unpack-fwd.Post,
-) (unpack-fwd-at t) unpack-fwd.Post
+unpack-fwd-mul-path : (t : ℕ) → unpack-fwd-lts.Need-mul-path (unpack-fwd-claims t) (unpack-fwd-at t) unpack-fwd.Post
 unpack-fwd-mul-path t c = search needs
 
-unpack-fwd-shared-slice-read-path : (t : ℕ) → unpack-fwd-lts.Need-shared-slice-read-path (
-  unpack-bwd-below t,
-  unpack-bwd.Post,
-  unpack-fwd-below t,
-  unpack-fwd.Post,
-) (unpack-fwd-at t) unpack-fwd.Post
+unpack-fwd-shared-slice-read-path : (t : ℕ) → unpack-fwd-lts.Need-shared-slice-read-path (unpack-fwd-claims t) (unpack-fwd-at t) unpack-fwd.Post
 unfolding table
-unpack-fwd-shared-slice-read-path t c = base-room _ _ _ _ (c .before .before .before .before .before .before .before .before .before .before .before .before .before .before .before .before .before .before .before .pre .1 .entry)
+unpack-fwd-shared-slice-read-path t c = base-room _ _ _ _ ((unpack-fwd-else1→start t (c .before .before .before .before)) .pre .1 .entry)
 
-unpack-fwd-mul-path-2 : (t : ℕ) → unpack-fwd-lts.Need-mul-path-2 (
-  unpack-bwd-below t,
-  unpack-bwd.Post,
-  unpack-fwd-below t,
-  unpack-fwd.Post,
-) (unpack-fwd-at t) unpack-fwd.Post
+unpack-fwd-mul-path-2 : (t : ℕ) → unpack-fwd-lts.Need-mul-path-2 (unpack-fwd-claims t) (unpack-fwd-at t) unpack-fwd.Post
 unpack-fwd-mul-path-2 t c = search needs
 
-unpack-fwd-slice-write-path : (t : ℕ) → unpack-fwd-lts.Need-slice-write-path (
-  unpack-bwd-below t,
-  unpack-bwd.Post,
-  unpack-fwd-below t,
-  unpack-fwd.Post,
-) (unpack-fwd-at t) unpack-fwd.Post
+unpack-fwd-slice-write-path : (t : ℕ) → unpack-fwd-lts.Need-slice-write-path (unpack-fwd-claims t) (unpack-fwd-at t) unpack-fwd.Post
 unpack-fwd-slice-write-path t c = c .before .if3 .taken
 
-unpack-fwd-same-length : (t : ℕ) → unpack-fwd-lts.Need-same-length (
-  unpack-bwd-below t,
-  unpack-bwd.Post,
-  unpack-fwd-below t,
-  unpack-fwd.Post,
-) (unpack-fwd-at t) unpack-fwd.Post
+unpack-fwd-same-length : (t : ℕ) → unpack-fwd-lts.Need-same-length (unpack-fwd-claims t) (unpack-fwd-at t) unpack-fwd.Post
 unpack-fwd-same-length t c = search needs
 
-unpack-fwd-returns-2 : (t : ℕ) → unpack-fwd-lts.Need-returns-2 (
-  unpack-bwd-below t,
-  unpack-bwd.Post,
-  unpack-fwd-below t,
-  unpack-fwd.Post,
-) (unpack-fwd-at t) unpack-fwd.Post
+unpack-fwd-returns-2 : (t : ℕ) → unpack-fwd-lts.Need-returns-2 (unpack-fwd-claims t) (unpack-fwd-at t) unpack-fwd.Post
 unfolding table tail-of used begin
-unpack-fwd-returns-2 t c = rw (plain _ _ _ _ (c .before .before .before .before .before .before .before .before .before .before .before .before .before .before .before .before .before .before .before .pre .1 .entry) (omega (arith, c .before .before .before .before .before .before .before .before .before .before .before .shared-slice-known8 .given (c .before .before .before .before .before .before .before .before .before .before .before .before .before .before .before .before .before .before .before .args .n))) (c .before .before .if2 .taken)) (put-one _ _ _ _ (c .before .before .before .before .if1 .left))
+unpack-fwd-returns-2 t c =
+    let start = unpack-fwd-else1→start t (c .before .before .before .before) in
+    rw (plain _ _ _ _ (start .pre .1 .entry) (omega (arith, (unpack-fwd-else1→shared-known8 t (c .before .before .before .before)) .shared-slice-known8 .given (start .args .n))) (c .before .before .if2 .taken)) (put-one _ _ _ _ (c .before .before .before .before .if1 .left))
 
-unpack-fwd-returns-3 : (t : ℕ) → unpack-fwd-lts.Need-returns-3 (
-  unpack-bwd-below t,
-  unpack-bwd.Post,
-  unpack-fwd-below t,
-  unpack-fwd.Post,
-) (unpack-fwd-at t) unpack-fwd.Post
+unpack-fwd-returns-3 : (t : ℕ) → unpack-fwd-lts.Need-returns-3 (unpack-fwd-claims t) (unpack-fwd-at t) unpack-fwd.Post
 unfolding table tail-of used begin
-unpack-fwd-returns-3 t c = rw (plain _ _ _ _ (c .before .before .before .before .before .before .before .before .before .before .before .before .before .before .before .before .before .before .pre .1 .entry) (omega (arith, c .before .before .before .before .before .before .before .before .before .before .shared-slice-known8 .given (c .before .before .before .before .before .before .before .before .before .before .before .before .before .before .before .before .before .before .args .n))) (c .before .if2 .taken)) (put-past _ _ _ _ (c .before .before .before .if1 .left) (c .if3 .left))
+unpack-fwd-returns-3 t c =
+    let start = unpack-fwd-else1→start t (c .before .before .before) in
+    rw (plain _ _ _ _ (start .pre .1 .entry) (omega (arith, (unpack-fwd-else1→shared-known8 t (c .before .before .before)) .shared-slice-known8 .given (start .args .n))) (c .before .if2 .taken)) (put-past _ _ _ _ (c .before .before .before .if1 .left) (c .if3 .left))
 
-unpack-fwd-unpack-bwd-requires : (t : ℕ) → unpack-fwd-lts.Need-unpack-bwd-requires (
-  unpack-bwd-below t,
-  unpack-bwd.Post,
-  unpack-fwd-below t,
-  unpack-fwd.Post,
-) (unpack-fwd-at t) unpack-fwd.Post
+unpack-fwd-unpack-bwd-requires : (t : ℕ) → unpack-fwd-lts.Need-unpack-bwd-requires (unpack-fwd-claims t) (unpack-fwd-at t) unpack-fwd.Post
 unfolding table
 unpack-fwd-unpack-bwd-requires t c κs =
-    let u = c .before .before .before .before .before .before .before .before .before .before .before .before .before .before .before .before .before .before .pre .1 .entry in
+    let start = unpack-fwd-else1→start t (c .before .before .before) in
+    let u = start .pre .1 .entry in
     let m = c .before .if2 .left in
-    (rw (← c .before .before .before .before .before .before .before .before .before .before .before .before .before .before .before .before .before .before .pre .0) (in-lower _ _ _ _ u m), record { entry = open-in _ _ _ _ u m; fits = c .before .before .before .before .before .before .before .before .before .before .before .before .before .before .before .before .before .before .pre .1 .fits })
+    (rw (← start .pre .0) (in-lower _ _ _ _ u m), record { entry = open-in _ _ _ _ u m; fits = start .pre .1 .fits })
 
-unpack-fwd-mul-unpack-fwd : (t : ℕ) → unpack-fwd-lts.Need-mul-unpack-fwd (
-  unpack-bwd-below t,
-  unpack-bwd.Post,
-  unpack-fwd-below t,
-  unpack-fwd.Post,
-) (unpack-fwd-at t) unpack-fwd.Post
+unpack-fwd-mul-unpack-fwd : (t : ℕ) → unpack-fwd-lts.Need-mul-unpack-fwd (unpack-fwd-claims t) (unpack-fwd-at t) unpack-fwd.Post
 unpack-fwd-mul-unpack-fwd t c = search needs
 
 unpack-fwd-shared-slice-read-unpack-fwd :
@@ -345,80 +262,55 @@ unpack-fwd-shared-slice-read-unpack-fwd :
       unpack-fwd.Post,
     ) (unpack-fwd-at t) unpack-fwd.Post
 unfolding table
-unpack-fwd-shared-slice-read-unpack-fwd t c = out-room _ _ _ _ (c .before .before .before .before .before .before .before .before .before .before .before .before .before .before .before .before .before .before .before .before .before .before .pre .1 .entry)
+unpack-fwd-shared-slice-read-unpack-fwd t c = out-room _ _ _ _ ((unpack-fwd-unpack-bwd→start t (c .before .before .before)) .pre .1 .entry)
 
-unpack-fwd-add-unpack-fwd : (t : ℕ) → unpack-fwd-lts.Need-add-unpack-fwd (
-  unpack-bwd-below t,
-  unpack-bwd.Post,
-  unpack-fwd-below t,
-  unpack-fwd.Post,
-) (unpack-fwd-at t) unpack-fwd.Post
+unpack-fwd-add-unpack-fwd : (t : ℕ) → unpack-fwd-lts.Need-add-unpack-fwd (unpack-fwd-claims t) (unpack-fwd-at t) unpack-fwd.Post
 unfolding table
 unpack-fwd-add-unpack-fwd t c =
-    let u = c .before .before .before .before .before .before .before .before .before .before .before .before .before .before .before .before .before .before .before .before .before .before .before .pre .1 .entry in
+    let start = unpack-fwd-unpack-bwd→start t (c .before .before .before .before) in
+    let u = start .pre .1 .entry in
     let m = c .before .before .before .before .before .before .if2 .left in
     let p = c .before .before .before .before .unpack-bwd .ensures in
-    omega (arith, first-within _ _ _ (both _ _ _ _ u m) _ _ (c .before .before .before .before .before .before .before .before .before .before .before .before .before .before .before .before .before .before .before .before .before .before .before .pre .1 .fits) _ _ _ p, c .before .before .before .before .before .before .before .before .before .before .before .before .before .before .before .before .before .before .before .before .before .before .before .pre .1 .fits)
+    omega (arith, first-within _ _ _ (both _ _ _ _ u m) _ _ (start .pre .1 .fits) _ _ _ p, start .pre .1 .fits)
 
-unpack-fwd-sub-unpack-fwd : (t : ℕ) → unpack-fwd-lts.Need-sub-unpack-fwd (
-  unpack-bwd-below t,
-  unpack-bwd.Post,
-  unpack-fwd-below t,
-  unpack-fwd.Post,
-) (unpack-fwd-at t) unpack-fwd.Post
+unpack-fwd-sub-unpack-fwd : (t : ℕ) → unpack-fwd-lts.Need-sub-unpack-fwd (unpack-fwd-claims t) (unpack-fwd-at t) unpack-fwd.Post
 unfolding table
 unpack-fwd-sub-unpack-fwd t c =
-    let u = c .before .before .before .before .before .before .before .before .before .before .before .before .before .before .before .before .before .before .before .before .before .before .before .pre .1 .entry in
+    let start = unpack-fwd-unpack-bwd→start t (c .before .before .before .before) in
+    let u = start .pre .1 .entry in
     let m = c .before .before .before .before .before .before .if2 .left in
     let p = c .before .before .before .before .unpack-bwd .ensures in
-    first-within _ _ _ (both _ _ _ _ u m) _ _ (c .before .before .before .before .before .before .before .before .before .before .before .before .before .before .before .before .before .before .before .before .before .before .before .pre .1 .fits) _ _ _ p
+    first-within _ _ _ (both _ _ _ _ u m) _ _ (start .pre .1 .fits) _ _ _ p
 
-unpack-fwd-unpack-fwd-requires : (t : ℕ) → unpack-fwd-lts.Need-unpack-fwd-requires (
-  unpack-bwd-below t,
-  unpack-bwd.Post,
-  unpack-fwd-below t,
-  unpack-fwd.Post,
-) (unpack-fwd-at t) unpack-fwd.Post
+unpack-fwd-unpack-fwd-requires : (t : ℕ) → unpack-fwd-lts.Need-unpack-fwd-requires (unpack-fwd-claims t) (unpack-fwd-at t) unpack-fwd.Post
 unfolding table
 unpack-fwd-unpack-fwd-requires t c κs =
-    let u = c .before .before .before .before .before .before .before .before .before .before .before .before .before .before .before .before .before .before .before .before .before .before .before .pre .1 .entry in
+    let start = unpack-fwd-unpack-bwd→start t (c .before .before .before .before) in
+    let u = start .pre .1 .entry in
     let m = c .before .before .before .before .before .before .if2 .left in
     let p = c .before .before .before .before .unpack-bwd .ensures in
-    (rw (← c .before .before .before .before .before .before .before .before .before .before .before .before .before .before .before .before .before .before .before .before .before .before .before .pre .0) (out-lower _ _ _ _ u m), record { entry = open-out _ _ _ _ u m; fits = rest-fits _ _ _ (both _ _ _ _ u m) _ _ (c .before .before .before .before .before .before .before .before .before .before .before .before .before .before .before .before .before .before .before .before .before .before .before .pre .1 .fits) _ _ _ p })
+    (rw (← start .pre .0) (out-lower _ _ _ _ u m), record { entry = open-out _ _ _ _ u m; fits = rest-fits _ _ _ (both _ _ _ _ u m) _ _ (start .pre .1 .fits) _ _ _ p })
 
-unpack-fwd-add-result : (t : ℕ) → unpack-fwd-lts.Need-add-result (
-  unpack-bwd-below t,
-  unpack-bwd.Post,
-  unpack-fwd-below t,
-  unpack-fwd.Post,
-) (unpack-fwd-at t) unpack-fwd.Post
+unpack-fwd-add-result : (t : ℕ) → unpack-fwd-lts.Need-add-result (unpack-fwd-claims t) (unpack-fwd-at t) unpack-fwd.Post
 unfolding table
 unpack-fwd-add-result t c =
-    let u = c .before .before .before .before .before .before .before .before .before .before .before .before .before .before .before .before .before .before .before .before .before .before .before .before .before .before .pre .1 .entry in
-    let m = c .before .before .before .before .before .before .before .before .before .if2 .left in
-    let p = c .before .before .before .before .before .before .before .unpack-bwd .ensures in
-    omega (arith, both-within _ _ _ (both _ _ _ _ u m) _ _ (c .before .before .before .before .before .before .before .before .before .before .before .before .before .before .before .before .before .before .before .before .before .before .before .before .before .before .pre .1 .fits) _ _ _ p _ _ (c .before .before .unpack-fwd .ensures))
+    let start = unpack-fwd-unpack-fwd→start t (c .before .before) in
+    let u = start .pre .1 .entry in
+    let m = (unpack-fwd-unpack-fwd→unpack-bwd t (c .before .before)) .before .before .if2 .left in
+    let p = (unpack-fwd-unpack-fwd→unpack-bwd t (c .before .before)) .unpack-bwd .ensures in
+    omega (arith, both-within _ _ _ (both _ _ _ _ u m) _ _ (start .pre .1 .fits) _ _ _ p _ _ (c .before .before .unpack-fwd .ensures))
 
-unpack-fwd-same-length-2 : (t : ℕ) → unpack-fwd-lts.Need-same-length-2 (
-  unpack-bwd-below t,
-  unpack-bwd.Post,
-  unpack-fwd-below t,
-  unpack-fwd.Post,
-) (unpack-fwd-at t) unpack-fwd.Post
+unpack-fwd-same-length-2 : (t : ℕ) → unpack-fwd-lts.Need-same-length-2 (unpack-fwd-claims t) (unpack-fwd-at t) unpack-fwd.Post
 unpack-fwd-same-length-2 t c = search needs
 
-unpack-fwd-returns-4 : (t : ℕ) → unpack-fwd-lts.Need-returns-4 (
-  unpack-bwd-below t,
-  unpack-bwd.Post,
-  unpack-fwd-below t,
-  unpack-fwd.Post,
-) (unpack-fwd-at t) unpack-fwd.Post
+unpack-fwd-returns-4 : (t : ℕ) → unpack-fwd-lts.Need-returns-4 (unpack-fwd-claims t) (unpack-fwd-at t) unpack-fwd.Post
 unfolding table
 unpack-fwd-returns-4 t c =
-    let u = c .before .before .before .before .before .before .before .before .before .before .before .before .before .before .before .before .before .before .before .before .before .before .before .before .before .before .pre .1 .entry in
-    let m = c .before .before .before .before .before .before .before .before .before .if2 .left in
-    let p = c .before .before .before .before .before .before .before .unpack-bwd .ensures in
-    put-both _ _ _ (both _ _ _ _ u m) _ _ (c .before .before .before .before .before .before .before .before .before .before .before .before .before .before .before .before .before .before .before .before .before .before .before .before .before .before .pre .1 .fits) _ _ _ p _ _ (c .before .before .unpack-fwd .ensures)
+    let start = unpack-fwd-unpack-fwd→start t (c .before .before) in
+    let u = start .pre .1 .entry in
+    let m = (unpack-fwd-unpack-fwd→unpack-bwd t (c .before .before)) .before .before .if2 .left in
+    let p = (unpack-fwd-unpack-fwd→unpack-bwd t (c .before .before)) .unpack-bwd .ensures in
+    put-both _ _ _ (both _ _ _ _ u m) _ _ (start .pre .1 .fits) _ _ _ p _ _ (c .before .before .unpack-fwd .ensures)
 
 pub +unpack-bwd+unpack-fwd-spec : {M : Type 1} → statement M
 +unpack-bwd+unpack-fwd-spec = close μ-unpack-bwd μ-unpack-fwd (λ t. unpack-bwd-lts.spec (

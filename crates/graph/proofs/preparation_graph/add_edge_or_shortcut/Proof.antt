@@ -17,6 +17,19 @@ use Rattle.graph.proofs.preparation_graph.add_edge_or_shortcut.Reads as
 use Rattle.graph.proofs.preparation_graph.add_edge_or_shortcut.Lts as lts
 use Rattle.lists.proofs.put_arc.Reads as put-arc-reads
 
+-- Back from a place of the body to an earlier one.
+abbrev then1→start : tie.Then1 → tie.Start
+then1→start c = c .before .before .before .before
+
+abbrev then2→start : tie.Then2 → tie.Start
+then2→start c = c .before .before .before .before .before
+
+abbrev put-arc→then1 : tie.After-put-arc → tie.Then1
+put-arc→then1 c = c .before .before .before .before .before
+
+abbrev put-arc2→then2 : tie.After-put-arc2 → tie.Then2
+put-arc2→then2 c = c .before .before .before .before
+
 addable-takes : {n pool p : ℕ} {m : Memory} {w : List ℕ} {state : Pool} {a : Arc} {g : List Arc} → Addable n pool m w state a g → p < pool → CanTake m w p a
 addable-takes r below = takes (r .stands .placed) _ (r .stands .weights-room) _ below _ (r .tail-in) (r .head-in)
 
@@ -34,13 +47,13 @@ mul-rest-2 c = search needs
 
 slice-read-rest : tie.Need-slice-read-rest
 slice-read-rest c =
-    let s = c .before .before .before .before .before in
+    let s = then1→start (c .before) in
     let r = s .pre .2 in
     omega (arith, freed-below (r .stands .placed) (c .before .if1 .taken), r .stands .placed .arcs-room)
 
 put-arc-requires : tie.Need-put-arc-requires
 put-arc-requires c κs =
-    let s = c .before .before .before .before .before .before .before .before in
+    let s = then1→start (c .before .before .before .before) in
     let r = s .pre .2 in
     addable-takes r (freed-below (r .stands .placed) (c .before .before .before .before .if1 .taken))
 
@@ -56,10 +69,10 @@ same-length-3 c = c .before .before .before .before .before .before .put-arc .ke
 returns : tie.Need-returns
 returns c n g r =
     let put = c .before .before .before .before .before .before .put-arc in
-    answers-came (rw (put .ensures .0, put .ensures .1) (stands-reused (r .stands) _ (r .tail-in) (r .head-in) (c .before .before .before .before .before .before .before .before .before .before .before .if1 .taken)))
+    answers-came (rw (put .ensures .0, put .ensures .1) (stands-reused (r .stands) _ (r .tail-in) (r .head-in) ((put-arc→then1 (c .before .before .before .before .before .before)) .if1 .taken)))
 
 put-arc-requires-2 : tie.Need-put-arc-requires-2
-put-arc-requires-2 c κs = addable-takes (c .before .before .before .before .before .before .before .before .pre .2) (c .before .before .before .if2 .taken)
+put-arc-requires-2 c κs = addable-takes ((then2→start (c .before .before .before)) .pre .2) (c .before .before .before .if2 .taken)
 
 add-t35 : tie.Need-add-t35
 add-t35 c = search needs
@@ -76,7 +89,7 @@ same-length-6 c = c .before .before .before .before .before .before .put-arc2 .k
 returns-2 : tie.Need-returns-2
 returns-2 c n g r =
     let put = c .before .before .before .before .before .before .put-arc2 in
-    answers-came (rw (put .ensures .0, put .ensures .1) (stands-fresh (r .stands) _ (r .tail-in) (r .head-in) (c .before .before .before .before .before .before .before .before .before .before .before .if1 .left) (c .before .before .before .before .before .before .before .before .before .before .if2 .taken)))
+    answers-came (rw (put .ensures .0, put .ensures .1) (stands-fresh (r .stands) _ (r .tail-in) (r .head-in) ((put-arc2→then2 (c .before .before .before .before .before .before)) .before .if1 .left) ((put-arc2→then2 (c .before .before .before .before .before .before)) .if2 .taken)))
 
 returns-3 : tie.Need-returns-3
 returns-3 c n g r = answers-full (pool-full (r .stands) _ (r .tail-in) (r .head-in) (c .before .if1 .left) (c .if2 .left))

@@ -9,6 +9,13 @@ use Rattle.graph.proofs.preparation_graph.disconnect.Reads as reads
 use Rattle.graph.proofs.preparation_graph.disconnect.Lts as lts
 use Rattle.graph.proofs.preparation_graph.remove_side.Reads as remove-side-reads
 
+-- Back from a place of the body to an earlier one.
+abbrev remove-side→start : tie.After-remove-side → tie.Start
+remove-side→start c = c .before .before .before .before .before
+
+abbrev remove-side2→remove-side : tie.After-remove-side2 → tie.After-remove-side
+remove-side2→remove-side c = c .before .before .before .before .before .before .before
+
 remove-side-requires : tie.Need-remove-side-requires
 remove-side-requires c κs =
     let s = c .before .before .before .before in
@@ -17,7 +24,7 @@ remove-side-requires c κs =
 
 remove-side-requires-2 : tie.Need-remove-side-requires-2
 remove-side-requires-2 c κs =
-    let s = c .before .before .before .before .before .before .before .before .before .before .before in
+    let s = remove-side→start (c .before .before .before .before .before .before) in
     let k = s .pre in
     let out = c .before .before .before .before .before .before .remove-side in (
       omega arith,
@@ -33,15 +40,15 @@ remove-side-requires-2 c κs =
     )
 
 same-length : tie.Need-same-length
-same-length c = c .before .before .before .before .remove-side2 .kept .0 ∙ c .before .before .before .before .before .before .before .before .before .before .before .remove-side .kept .0
+same-length c = c .before .before .before .before .remove-side2 .kept .0 ∙ (remove-side2→remove-side (c .before .before .before .before)) .remove-side .kept .0
 
 same-length-2 : tie.Need-same-length-2
-same-length-2 c = c .before .before .before .before .remove-side2 .kept .1 .0 ∙ c .before .before .before .before .before .before .before .before .before .before .before .remove-side .kept .1 .0
+same-length-2 c = c .before .before .before .before .remove-side2 .kept .1 .0 ∙ (remove-side2→remove-side (c .before .before .before .before)) .remove-side .kept .1 .0
 
 returns : tie.Need-returns
 returns c n pool w g here inside =
-    let a = c .before .before .before .before .before .before .before .before .before .before .before .before .before .before .before .before .args in
-    let out = c .before .before .before .before .before .before .before .before .before .before .before .remove-side .ensures in
+    let a = (remove-side→start (remove-side2→remove-side (c .before .before .before .before))) .args in
+    let out = (remove-side2→remove-side (c .before .before .before .before)) .remove-side .ensures in
     let enter = c .before .before .before .before .remove-side2 .ensures in
     let fresh = a .state .fresh in
     rw (disconnected g (a .v)) at (enter n pool fresh w (untouched 0 (a .v) g) (out n pool fresh w g here inside) inside)

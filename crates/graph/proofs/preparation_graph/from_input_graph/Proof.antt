@@ -27,11 +27,29 @@ Inv-loop arcs₀ weights₀ nodes₀ pool n tails heads link-weights state₀ i�
 abbrev μ-loop : tie.MeasureT-loop
 μ-loop arcs₀ weights₀ nodes₀ pool n tails heads link-weights state₀ i₀ arcs weights nodes state i = length tails - i
 
+-- Back from a place of the body to an earlier one.
+abbrev clear-arg→start : tie.After-clear-arg Inv-loop μ-loop → tie.Start Inv-loop μ-loop
+clear-arg→start c = c .before .before .before .before .before .before .before
+
+abbrev add-edge-or-shortcut→in-loop : tie.After-add-edge-or-shortcut Inv-loop μ-loop → tie.In-loop Inv-loop μ-loop
+add-edge-or-shortcut→in-loop c = c .before .before .before .before .before .before .before
+
+abbrev at-match-keys2→add-edge-or-shortcut : tie.At-match-keys2 Inv-loop μ-loop → tie.After-add-edge-or-shortcut Inv-loop μ-loop
+at-match-keys2→add-edge-or-shortcut c = c .before .before .before .before .before .before .before
+
+abbrev at-match-keys2→in-loop : tie.At-match-keys2 Inv-loop μ-loop → tie.In-loop Inv-loop μ-loop
+at-match-keys2→in-loop c = add-edge-or-shortcut→in-loop (at-match-keys2→add-edge-or-shortcut c)
+
+abbrev at-match-keys1→add-edge-or-shortcut : tie.At-match-keys1 Inv-loop μ-loop → tie.After-add-edge-or-shortcut Inv-loop μ-loop
+at-match-keys1→add-edge-or-shortcut c = c .before .before .before .before .before .before .before
+
 clear-requires : tie.Need-clear-requires Inv-loop μ-loop
 clear-requires c κs = search needs
 
 loop-holds : tie.Need-loop-holds Inv-loop μ-loop
-loop-holds c = (omega arith, c .before .before .before .before .before .before .before .before .before .before .pre .1, refl, refl, refl, c .before .before .clear .ensures _ _ _ (c .before .before .before .before .before .before .before .before .before .before .pre .0 .numbered) (c .before .before .before .before .before .before .before .before .before .before .pre .0 .arcs-room) (c .before .before .before .before .before .before .before .before .before .before .pre .0 .weights-room))
+loop-holds c =
+    let start = clear-arg→start (c .before .before .before) in
+    (omega arith, start .pre .1, refl, refl, refl, c .before .before .clear .ensures _ _ _ (start .pre .0 .numbered) (start .pre .0 .arcs-room) (start .pre .0 .weights-room))
 
 mul-add-edge-or-shortcut : tie.Need-mul-add-edge-or-shortcut Inv-loop μ-loop
 mul-add-edge-or-shortcut c = search needs
@@ -69,35 +87,35 @@ enum-told : tie.Need-enum-told Inv-loop μ-loop
 enum-told c = search needs
 
 same-length : tie.Need-same-length Inv-loop μ-loop
-same-length c = c .before .before .before .before .before .before .before .before .add-edge-or-shortcut .kept .0 ∙ c .before .before .before .before .before .before .before .before .before .before .before .before .before .before .before .before .loop .inv .2
+same-length c = (at-match-keys2→add-edge-or-shortcut (c .before)) .add-edge-or-shortcut .kept .0 ∙ (at-match-keys2→in-loop (c .before)) .before .loop .inv .2
 
 same-length-2 : tie.Need-same-length-2 Inv-loop μ-loop
-same-length-2 c = c .before .before .before .before .before .before .before .before .add-edge-or-shortcut .kept .1 .0 ∙ c .before .before .before .before .before .before .before .before .before .before .before .before .before .before .before .before .loop .inv .3
+same-length-2 c = (at-match-keys2→add-edge-or-shortcut (c .before)) .add-edge-or-shortcut .kept .1 .0 ∙ (at-match-keys2→in-loop (c .before)) .before .loop .inv .3
 
 same-length-3 : tie.Need-same-length-3 Inv-loop μ-loop
-same-length-3 c = c .before .before .before .before .before .before .before .before .add-edge-or-shortcut .kept .1 .1 .0 ∙ c .before .before .before .before .before .before .before .before .before .before .before .before .before .before .before .before .loop .inv .4 ∙ c .before .before .before .before .before .before .before .before .before .before .before .before .before .before .before .before .before .before .before .clear .kept .0
+same-length-3 c = (at-match-keys2→add-edge-or-shortcut (c .before)) .add-edge-or-shortcut .kept .1 .1 .0 ∙ (at-match-keys2→in-loop (c .before)) .before .loop .inv .4 ∙ (at-match-keys2→in-loop (c .before)) .before .before .before .before .clear .kept .0
 
 returns : tie.Need-returns Inv-loop μ-loop
 returns c =
-    let loop = c .before .before .before .before .before .before .before .before .before .before .before .before .before .before .before .before .loop in
+    let loop = (at-match-keys2→in-loop (c .before)) .before .loop in
     let b = loop .inv .1 in
-    let below = c .before .before .before .before .before .before .before .before .before .before .before .before .before .before .before .loop-test .taken in
+    let below = (at-match-keys2→in-loop (c .before)) .loop-test .taken in
     next-full _ _ _ b (loop .i) (loop .inv .5) below
-    (c .before .before .before .before .before .before .before .before .add-edge-or-shortcut .ensures _ _ (next-addable _ _ _ b (loop .i) (loop .inv .5) below))
+    ((at-match-keys2→add-edge-or-shortcut (c .before)) .add-edge-or-shortcut .ensures _ _ (next-addable _ _ _ b (loop .i) (loop .inv .5) below))
     (c .enum-told .given .1)
 
 add-i : tie.Need-add-i Inv-loop μ-loop
-add-i c = omega (arith, c .before .before .before .before .before .before .before .before .before .before .before .before .before .before .before .before .loop-test .taken, c .before .before .before .before .before .before .before .before .before .before .before .before .before .before .before .before .before .before .before .before .before .before .before .before .before .before .before .before)
+add-i c = omega (arith, (add-edge-or-shortcut→in-loop (at-match-keys1→add-edge-or-shortcut (c .before .before))) .loop-test .taken, clear-arg→start ((add-edge-or-shortcut→in-loop (at-match-keys1→add-edge-or-shortcut (c .before .before))) .before .before .before .before .before))
 
 loop-less : tie.Need-loop-less Inv-loop μ-loop
 loop-less c = search needs
 
 loop-again : tie.Need-loop-again Inv-loop μ-loop
 loop-again c =
-    let loop = c .before .before .before .before .before .before .before .before .before .before .before .before .before .before .before .before .before .loop in
+    let loop = (add-edge-or-shortcut→in-loop (at-match-keys1→add-edge-or-shortcut (c .before .before))) .before .loop in
     let b = loop .inv .1 in
-    let below = c .before .before .before .before .before .before .before .before .before .before .before .before .before .before .before .before .loop-test .taken in
-    let call = c .before .before .before .before .before .before .before .before .before .add-edge-or-shortcut in (
+    let below = (add-edge-or-shortcut→in-loop (at-match-keys1→add-edge-or-shortcut (c .before .before))) .loop-test .taken in
+    let call = (at-match-keys1→add-edge-or-shortcut (c .before .before)) .add-edge-or-shortcut in (
       omega (arith, below),
       b,
       call .kept .0 ∙ loop .inv .2,

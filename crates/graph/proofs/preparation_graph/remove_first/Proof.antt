@@ -22,6 +22,19 @@ use Rattle.graph.proofs.preparation_graph.remove_first.Lts as lts
 use Rattle.lists.proofs.predecessor.Reads as predecessor-reads
 use Rattle.lists.proofs.unlink.Reads as unlink-reads
 
+-- Back from a place of the body to an earlier one.
+abbrev predecessor→start : tie.After-predecessor → tie.Start
+predecessor→start c = c .before .before .before .before .before .before .before
+
+abbrev unlink→start : tie.After-unlink → tie.Start
+unlink→start c = predecessor→start (c .before .before .before)
+
+abbrev unlink2→unlink : tie.After-unlink2 → tie.After-unlink
+unlink2→unlink c = c .before .before .before .before .before .before .before
+
+abbrev unlink2→start : tie.After-unlink2 → tie.Start
+unlink2→start c = unlink→start (unlink2→unlink c)
+
 -- of the graph that the caller knows of: the place is in the slice, and the other end of its arc is a node
 room : (s : tie.Start) → Room (memory (s .args .arcs .now) (s .args .nodes .now)) (first (memory (s .args .arcs .now) (s .args .nodes .now)) (s .args .side) (s .args .node))
 room s = place-room (s .pre .2 .stands) (s .args .side) (s .args .node) (s .pre .0) (s .pre .2 .inside) (s .pre .1)
@@ -104,19 +117,19 @@ predecessor-requires c κs =
 
 -- what `predecessor` found is what stands before the place, of any graph that stands
 before-is : (c : tie.After-predecessor) {n pool fresh : ℕ} {w : List ℕ} {g : List Arc} →
-    let s = c .before .before .before .before .before .before .before in
+    let s = predecessor→start c in
     let m = memory (s .args .arcs .now) (s .args .nodes .now) in
     (here : Stands n pool m w (state-of (s .args .free) fresh) g) → s .args .node < n →
     c .predecessor .result ≡ before invalid (first m (s .args .side) (s .args .node)) (keep (ends-at m (1 - s .args .side) (far s)) (here .ids))
 before-is c here inside =
-    let s = c .before .before .before .before .before .before .before in
+    let s = predecessor→start c in
     c .predecessor .ensures _
     (beyond-walk here (s .args .side) (s .args .node) (s .pre .0) inside (s .pre .1))
     (in-beyond here (s .args .side) (s .args .node) (s .pre .0) inside (s .pre .1))
 
 unlink-requires : tie.Need-unlink-requires
 unlink-requires c κs =
-    let s = c .before .before .before .before .before .before .before .before .before in
+    let s = predecessor→start (c .before .before) in
     let k = s .pre .2 in (
       far-open (k .stands) (s .args .side) (s .args .node) (s .pre .0) (k .inside) (s .pre .1) _ (before-is (c .before .before) (k .stands) (k .inside)),
       room s,
@@ -124,42 +137,42 @@ unlink-requires c κs =
 
 unlink-requires-2 : tie.Need-unlink-requires-2
 unlink-requires-2 c κs =
-    let s = c .before .before .before .before .before .before .before .before .before .before .before .before .before .before .before .before in
+    let s = unlink→start (c .before .before .before .before .before .before) in
     let out = c .before .before .before .before .before .before .unlink in (
       record { side = s .pre .0; node = omega (arith, near-room s, out .kept .1 .0); place = λ h. absurd (h refl) },
       omega (arith, room s, out .kept .0),
     )
 
 cast-arcs : tie.Need-cast-arcs
-cast-arcs c = omega (arith, room (c .before .before .before .before .before .before .before .before .before .before .before .before .before .before .before .before .before .before .before .before .before))
+cast-arcs c = omega (arith, room (unlink2→start (c .before .before .before .before)))
 
 mul-arcs : tie.Need-mul-arcs
-mul-arcs c = omega (arith, room (c .before .before .before .before .before .before .before .before .before .before .before .before .before .before .before .before .before .before .before .before .before))
+mul-arcs c = omega (arith, room (unlink2→start (c .before .before .before .before)))
 
 add-arcs : tie.Need-add-arcs
-add-arcs c = omega (arith, room (c .before .before .before .before .before .before .before .before .before .before .before .before .before .before .before .before .before .before .before .before .before))
+add-arcs c = omega (arith, room (unlink2→start (c .before .before .before .before)))
 
 mul-arcs-2 : tie.Need-mul-arcs-2
-mul-arcs-2 c = omega (arith, room (c .before .before .before .before .before .before .before .before .before .before .before .before .before .before .before .before .before .before .before .before .before))
+mul-arcs-2 c = omega (arith, room (unlink2→start (c .before .before .before .before)))
 
 slice-write-arcs : tie.Need-slice-write-arcs
-slice-write-arcs c = omega (arith, room (c .before .before .before .before .before .before .before .before .before .before .before .before .before .before .before .before .before .before .before .before .before), c .before .before .before .before .unlink2 .kept .0, c .before .before .before .before .before .before .before .before .before .before .before .unlink .kept .0)
+slice-write-arcs c = omega (arith, room (unlink2→start (c .before .before .before .before)), c .before .before .before .before .unlink2 .kept .0, (unlink2→unlink (c .before .before .before .before)) .unlink .kept .0)
 
 same-length : tie.Need-same-length
-same-length c = simp length-set (c .before .before .before .before .unlink2 .kept .0 ∙ c .before .before .before .before .before .before .before .before .before .before .before .unlink .kept .0)
+same-length c = simp length-set (c .before .before .before .before .unlink2 .kept .0 ∙ (unlink2→unlink (c .before .before .before .before)) .unlink .kept .0)
 
 same-length-2 : tie.Need-same-length-2
-same-length-2 c = c .before .before .before .before .unlink2 .kept .1 .0 ∙ c .before .before .before .before .before .before .before .before .before .before .before .unlink .kept .1 .0
+same-length-2 c = c .before .before .before .before .unlink2 .kept .1 .0 ∙ (unlink2→unlink (c .before .before .before .before)) .unlink .kept .1 .0
 
 returns : tie.Need-returns
 unfolding remove
 returns c n pool fresh w g here inside =
-    let s = c .before .before .before .before .before .before .before .before .before .before .before .before .before .before .before .before .before .before .before .before .before in
+    let s = unlink2→start (c .before .before .before .before) in
     let a = s .args in
     let m = memory (a .arcs .now) (a .nodes .now) in
     let p = first m (a .side) (a .node) in
-    let found = c .before .before .before .before .before .before .before .before .before .before .before .before .before .before in
-    let done = c .before .before .before .before .unlink2 .ensures ∙ ap (λ (m : Memory). unlink m (a .side) (a .node) p invalid) (c .before .before .before .before .before .before .before .before .before .before .before .unlink .ensures) in
+    let found = (unlink2→unlink (c .before .before .before .before)) .before .before .before in
+    let done = c .before .before .before .before .unlink2 .ensures ∙ ap (λ (m : Memory). unlink m (a .side) (a .node) p invalid) ((unlink2→unlink (c .before .before .before .before)) .unlink .ensures) in
     rw (ap (λ (m : Memory). set-at m 5 p (a .free)) done)
     (stands-removed here (a .side) (a .node) (s .pre .0) inside (s .pre .1) (found .predecessor .result) (before-is found here inside))
 

@@ -22,6 +22,10 @@ abbrev μ-loop : tie.MeasureT-loop
 μ-loop arcs₀ nodes₀ side node free freed₀ arcs nodes freed =
     steps (column arcs (3 + side)) (length arcs) (first (memory arcs nodes) side node)
 
+-- Back from a place of the body to an earlier one.
+abbrev remove-first→at-loop : tie.After-remove-first Inv-loop μ-loop → tie.At-loop Inv-loop μ-loop
+remove-first→at-loop c = c .before .before .before .before .before
+
 loop-holds : tie.Need-loop-holds Inv-loop μ-loop
 loop-holds c = let a = c .before .before .args in (refl, refl, fewer-not (a .side) (a .node))
 
@@ -54,16 +58,16 @@ remove-first-requires c κs = (c .before .before .before .before .before .before
 
 loop-less : tie.Need-loop-less Inv-loop μ-loop
 loop-less c =
-    let s = c .before .before .before .before .before .before .before .before .before .before .before .before in
-    let k = now-some (c .before .before .before .before .before .before .before .before .before) in
+    let s = (remove-first→at-loop (c .before .before .before .before)) .before .before .before in
+    let k = now-some (remove-first→at-loop (c .before .before .before .before)) in
     let drops = c .before .before .before .before .remove-first .ensures in
     removed-nearer (s .args .side) (s .args .node) (s .pre .0) (k .inside) (k .stands)
     (drops (k .nodes) (k .pool) (k .fresh) (k .weights) (k .graph) (k .stands) (k .inside)) (c .before .before .before .before .before .before .before .if1 .taken)
 
 loop-again : tie.Need-loop-again Inv-loop μ-loop
 loop-again c =
-    let a = c .before .before .before .before .before .before .before .before .before .before .before .before .args in
-    let l = c .before .before .before .before .before .before .before .before .before .loop in
+    let a = (remove-first→at-loop (c .before .before .before .before)) .before .before .before .args in
+    let l = (remove-first→at-loop (c .before .before .before .before)) .loop in
     let first-out = c .before .before .before .before .remove-first in (
       first-out .kept .0 ∙ l .inv .0,
       first-out .kept .1 .0 ∙ l .inv .1,

@@ -7,6 +7,10 @@ use Rattle.search.proofs.Offers.{started}
 use Rattle.search.proofs.witness_search.init.Statement.{statement}
 use Rattle.search.proofs.witness_search.init.Tie as tie
 
+-- Back from a place of the body to an earlier one.
+abbrev update-node→start : tie.After-update-node → tie.Start
+update-node→start c = c .before .before .before .before .before
+
 add-base : tie.Need-add-base
 add-base c = search needs
 
@@ -14,7 +18,7 @@ update-node-requires : tie.Need-update-node-requires
 update-node-requires c κs = search needs
 
 push-requires : tie.Need-push-requires
-push-requires c κs = (omega (arith, c .before .before .before .before .before .before .before .before .pre .1 .heap-room), empty-ordered _)
+push-requires c κs = (omega (arith, (update-node→start (c .before .before .before)) .pre .1 .heap-room), empty-ordered _)
 
 same-length : tie.Need-same-length
 same-length c = c .before .before .before .before .before .before .update-node .kept .0

@@ -18,18 +18,25 @@ abbrev μ-loop : tie.MeasureT-loop
 μ-loop arcs weights labels₀ heap₀ base avoid len first weight len₀ place₀ labels heap len' place =
     steps (link arcs) (length weights) place
 
+-- Back from a place of the body to an earlier one.
+abbrev at-loop→start : tie.At-loop Inv-loop μ-loop → tie.Start Inv-loop μ-loop
+at-loop→start c = c .before .before .before .before .before
+
+abbrev relax-arc→in-loop : tie.After-relax-arc Inv-loop μ-loop → tie.In-loop Inv-loop μ-loop
+relax-arc→in-loop c = c .before .before .before .before .before .before
+
 -- of the row that is there
 rest : (c : tie.At-loop Inv-loop μ-loop) →
-    let a = c .before .before .before .before .before .args in
-    let r = c .before .before .before .before .before .pre in
+    let a = (at-loop→start c) .args in
+    let r = (at-loop→start c) .pre in
     Rest (a .arcs .now) (a .weights .now) (c .loop .labels) (c .loop .heap) (a .base) (a .avoid) (c .loop .len) (c .loop .place) (a .weight) (r .0) (r .1)
 rest c =
-    let r = c .before .before .before .before .before .pre in
+    let r = (at-loop→start c) .pre in
     c .loop .inv .2 (r .0) (r .1) (r .2)
 
 usable : (c : tie.In-loop Inv-loop μ-loop) →
-    let a = c .before .before .before .before .before .before .args in
-    let r = c .before .before .before .before .before .before .pre in
+    let a = (at-loop→start (c .before)) .args in
+    let r = (at-loop→start (c .before)) .pre in
     Usable (r .0 .n) (a .arcs .now) (a .weights .now) (c .before .loop .place)
 usable c = first-usable (rest (c .before) .relaxing) (c .loop-test .taken)
 
@@ -76,12 +83,12 @@ relax-arc-requires : tie.Need-relax-arc-requires Inv-loop μ-loop
 relax-arc-requires c κs = first-offering (rest (c .before .before .before .before .before .before) .relaxing) (c .before .before .before .before .before .loop-test .taken)
 
 loop-less : tie.Need-loop-less Inv-loop μ-loop
-loop-less c = walk-falls (rest (c .before .before .before .before .before .before .before .before .before .before .before) .relaxing) (c .before .before .before .before .before .before .before .before .before .before .loop-test .taken)
+loop-less c = walk-falls (rest ((relax-arc→in-loop (c .before .before .before .before)) .before) .relaxing) ((relax-arc→in-loop (c .before .before .before .before)) .loop-test .taken)
 
 loop-again : tie.Need-loop-again Inv-loop μ-loop
 loop-again c =
     let crossed = c .before .before .before .before in
-    let on = c .before .before .before .before .before .before .before .before .before .before in
+    let on = relax-arc→in-loop (c .before .before .before .before) in
     let l = on .before in (
       crossed .relax-arc .kept .0 ∙ l .loop .inv .0,
       crossed .relax-arc .kept .1 .0 ∙ l .loop .inv .1,

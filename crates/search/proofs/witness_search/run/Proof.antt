@@ -19,6 +19,19 @@ Inv-loop arcs weights nodes labels₀ heap₀ base avoid len settled target weig
 abbrev μ-loop : tie.MeasureT-loop
 μ-loop arcs weights nodes labels₀ heap₀ base avoid len settled target weight-limit settled-nodes-limit len₀ settled₀ left₀ labels heap len' settled' left = left
 
+-- Back from a place of the body to an earlier one.
+abbrev at-loop→start : tie.At-loop Inv-loop μ-loop → tie.Start Inv-loop μ-loop
+at-loop→start c = c .before .before .before .before .before .before
+
+abbrev turn→at-loop : tie.After-turn Inv-loop μ-loop → tie.At-loop Inv-loop μ-loop
+turn→at-loop c = c .before .before .before
+
+abbrev else1→at-loop : tie.Else1 Inv-loop μ-loop → tie.At-loop Inv-loop μ-loop
+else1→at-loop c = turn→at-loop (c .before .before .before .before .before .before)
+
+abbrev then1→turn : tie.Then1 Inv-loop μ-loop → tie.After-turn Inv-loop μ-loop
+then1→turn c = c .before .before .before .before .before .before
+
 add-left : tie.Need-add-left Inv-loop μ-loop
 add-left c = omega arith
 
@@ -27,26 +40,26 @@ loop-holds c = (refl, refl, λ w s x. onward-all _ _ x)
 
 turn-requires : tie.Need-turn-requires Inv-loop μ-loop
 turn-requires c κs =
-    let r = c .before .before .before .before .before .before .before .before .pre in
+    let r = (at-loop→start (c .before .before)) .pre in
     let x = c .before .before .loop .inv .2 (r .0) (r .1) (r .2) in
     (r .0, x .search, x .asked)
 
 same-length : tie.Need-same-length Inv-loop μ-loop
-same-length c = c .before .before .before .before .before .before .turn .kept .1 .1 .1 .0 ∙ c .before .before .before .before .before .before .before .before .before .loop .inv .0
+same-length c = (then1→turn c) .turn .kept .1 .1 .1 .0 ∙ (turn→at-loop (then1→turn c)) .loop .inv .0
 
 same-length-2 : tie.Need-same-length-2 Inv-loop μ-loop
-same-length-2 c = c .before .before .before .before .before .before .turn .kept .1 .1 .1 .1 .0 ∙ c .before .before .before .before .before .before .before .before .before .loop .inv .1
+same-length-2 c = (then1→turn c) .turn .kept .1 .1 .1 .1 .0 ∙ (turn→at-loop (then1→turn c)) .loop .inv .1
 
 returns : tie.Need-returns Inv-loop μ-loop
 returns c =
     λ w s x.
-    let o = c .before .before .before .before .before .before .before .before .before .loop .inv .2 w s x in
-    onward-stop o (c .before .before .before .before .before .before .turn .ensures w (o .search) (o .asked)) (not-true _ (c .if1 .taken))
+    let o = (turn→at-loop (then1→turn c)) .loop .inv .2 w s x in
+    onward-stop o ((then1→turn c) .turn .ensures w (o .search) (o .asked)) (not-true _ (c .if1 .taken))
 
-some : (c : tie.Else1 Inv-loop μ-loop) → 1 ≤ c .before .before .before .before .before .before .before .before .before .loop .left
+some : (c : tie.Else1 Inv-loop μ-loop) → 1 ≤ (else1→at-loop c) .loop .left
 some c =
-    let r = c .before .before .before .before .before .before .before .before .before .before .before .before .before .before .before .pre in
-    let o = c .before .before .before .before .before .before .before .before .before .loop .inv .2 (r .0) (r .1) (r .2) in
+    let r = (at-loop→start (else1→at-loop c)) .pre in
+    let o = (else1→at-loop c) .loop .inv .2 (r .0) (r .1) (r .2) in
     most-some o (c .before .before .before .before .before .before .turn .ensures (r .0) (o .search) (o .asked)) (not-false _ (c .if1 .left))
 
 sub-left : tie.Need-sub-left Inv-loop μ-loop
@@ -58,7 +71,7 @@ loop-less c = omega (arith, some c)
 loop-again : tie.Need-loop-again Inv-loop μ-loop
 loop-again c =
     let turned = c .before .before .before .before .before .before .turn in
-    let l = c .before .before .before .before .before .before .before .before .before .loop in (
+    let l = (else1→at-loop c) .loop in (
       turned .kept .1 .1 .1 .0 ∙ l .inv .0,
       turned .kept .1 .1 .1 .1 .0 ∙ l .inv .1,
       λ w s x.

@@ -8,6 +8,10 @@ use Rattle.search.proofs.Nodes.{settled-row, settling, settled}
 use Rattle.search.proofs.witness_search.settle.Statement.{statement}
 use Rattle.search.proofs.witness_search.settle.Tie as tie
 
+-- Back from a place of the body to an earlier one.
+abbrev relax-arg2→start : tie.After-relax-arg2 → tie.Start
+relax-arg2→start c = c .before .before .before .before .before .before .before
+
 add-labels : tie.Need-add-labels
 add-labels c = search needs
 
@@ -35,7 +39,7 @@ shared-slice-read-relax c = search needs
 relax-requires : tie.Need-relax-requires
 unfolding put-settled
 relax-requires c κs =
-    let r = c .before .before .before .before .before .before .before .before .pre in
+    let r = (relax-arg2→start (c .before)) .pre in
     (settled-row (r .2), mark-settled _ (r .1), settling (r .2))
 
 same-length : tie.Need-same-length

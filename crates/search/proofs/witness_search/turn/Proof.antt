@@ -12,20 +12,24 @@ use Rattle.search.proofs.Takes.{turned-empty, turned-limited, turned-he
 use Rattle.search.proofs.witness_search.turn.Statement.{statement}
 use Rattle.search.proofs.witness_search.turn.Tie as tie
 
+-- Back from a place of the body to an earlier one.
+abbrev else2→start : tie.Else2 → tie.Start
+else2→start c = c .before .before .before .before .before .before .before
+
 some : (c : tie.Else1) → 0 < c .before .before .before .before .before .before .args .len
 some c = omega (arith, c .if1 .left)
 
 -- the first entry's weight, as `peek` found it
-weighed : (c : tie.After-peek) → c .peek .result .weight ≡ item (c .before .before .before .before .before .before .before .before .before .args .heap .now) 0 .weight
+weighed : (c : tie.After-peek) → c .peek .result .weight ≡ item ((else2→start (c .before .before)) .args .heap .now) 0 .weight
 weighed c = ap (λ (i : Item). i .weight) (c .peek .ensures)
 
 light : (c : tie.Else3) →
-    let a = c .before .before .before .before .before .before .before .before .before .before .before .args in
+    let a = (else2→start (c .before .before .before .before)) .args in
     item (a .heap .now) 0 .weight ≤ a .weight-limit
 light c = omega (arith, c .if3 .left, weighed (c .before .before))
 
 taking : (c : tie.Else3) →
-    let a = c .before .before .before .before .before .before .before .before .before .before .before .args in
+    let a = (else2→start (c .before .before .before .before)) .args in
     let m = lent (a .arcs .now) (a .weights .now) (a .nodes .now) (a .labels .now) (a .heap .now) in
     (w : World) (s : Search) → Asked m (a .base) (a .len) (a .settled) (a .target) (a .weight-limit) w s →
     Taking m (a .base) (a .len) (a .settled) (a .target) (a .weight-limit) w s
@@ -52,7 +56,7 @@ returns-3 c =
 
 take-requires : tie.Need-take-requires
 take-requires c κs =
-    let r = c .before .before .before .before .before .before .before .before .before .before .before .before .before .pre in
+    let r = (else2→start (c .before .before .before .before .before .before)) .pre in
     (r .0, r .1, taking (c .before .before) (r .0) (r .1) (r .2))
 
 same-length-2 : tie.Need-same-length-2

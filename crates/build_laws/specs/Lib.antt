@@ -1,0 +1,2 @@
+-- What the build keeps at every rank.
+pub mod Runs

@@ -1,0 +1,2 @@
+-- The demands, stated of the calls' contracts.
+pub mod Calls

@@ -1,0 +1,2 @@
+-- What the record program's parts ask and leave.
+pub mod Answering

@@ -1,0 +1,2 @@
+-- Laws of gathering.
+pub mod Columns

@@ -1,0 +1,2 @@
+-- What gathering asks and leaves.
+pub mod Gathering

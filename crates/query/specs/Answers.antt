@@ -1,0 +1,40 @@
+-- What a query leaves, beside the paper's answer.
+use mathlib.Core.List.{List, _++_}
+use mathlib.Core.Path.{_≡_}
+use Prim.Native.Nat.{ℕ}
+use lib.ListN.{length, take}
+use Rattle.rules.specs.Columns.{Hierarchy, forward, backward}
+use Rattle.rules.specs.Refusals.{QueryCall}
+use Rattle.rules.specs.Query.{Answered, searched, route, handed-back}
+use Rattle.halves.specs.Labels.{half}
+use Rattle.paths.specs.Climbs.{half-walk, Labelled, Extracting}
+use Rattle.query.specs.declared.Answer.{Answer}
+
+abbrev pub answer : ℕ → ℕ → ℕ → Answer
+answer number weight count = record { number = number; weight = weight; count = count }
+
+-- the answer that the call's numbers and the path stand for: the walk is the front of the path
+abbrev pub told : Answer → List ℕ → Answered
+told r path = record { number = r .number; weight = r .weight; walk = take (r .count) path; path = path }
+
+pub record Tells (a : Answered) (r : Answer) (path : List ℕ) : Type 0 where
+  pub is : told r path ≡ a
+  pub count : r .count ≡ length (a .walk)
+
+-- the part that is handed back, and the two lent numbers
+pub record Hands (a : Answered) (part : List ℕ) (number weight : ℕ) : Type 0 where
+  pub walk : part ≡ a .walk
+  pub number-is : number ≡ a .number
+  pub weight-is : weight ≡ a .weight
+
+-- what a query that is not refused answers
+abbrev pub found : QueryCall → Answered
+found c = route c (searched c)
+
+-- labels of both sides that lead from a meeting node
+abbrev pub Handing : ℕ → Hierarchy → List ℕ → List ℕ → ℕ → Type 0
+Handing n h fl bl v = Extracting n h fl bl 1 v 0
+
+pub record HandedBack (n : ℕ) (h : Hierarchy) (fl bl : List ℕ) (v sum : ℕ) (r : Answer) (path path′ : List ℕ) : Type 0 where
+  pub tells : (f : Labelled n h forward fl 1) (b : Labelled n h backward bl 1) (c : QueryCall) → c .path ≡ path →
+      Tells (handed-back c sum (half-walk n h forward (half n 1 fl (f .heap) (f .len)) v ++ half-walk n h backward (half n 1 bl (b .heap) (b .len)) v)) r path′

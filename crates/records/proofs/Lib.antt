@@ -1,0 +1,3 @@
+-- Laws of records.
+pub mod Reading
+pub mod Onward

@@ -1,0 +1,3 @@
+-- What reading records says.
+pub mod Kinds
+pub mod Onward

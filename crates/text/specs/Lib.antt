@@ -1,0 +1,2 @@
+-- What writing asks and leaves.
+pub mod Wrote
