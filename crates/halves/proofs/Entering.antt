@@ -14,7 +14,7 @@ use Rattle.rules.specs.Query.{End, no-label, untouched, zip-ends, enter}
 use Rattle.heap.specs.Items.{items}
 use Rattle.heap.specs.Shape.{Ordered}
 use Rattle.heap.proofs.Laws.{empty-ordered, empty-sorted}
-use Rattle.halves.specs.Labels.{label, stamp, seen, label-at, settled-at, half}
+use Rattle.halves.specs.Labels.{label, stamp, Before, Keeps, seen, label-at, settled-at, half}
 use Rattle.halves.specs.Promises.{Offering, Offers, Entering, Enters}
 
 abbrev end : ℕ → ℕ → End
@@ -44,6 +44,7 @@ module _ (nodes offsets labels₀ heap₀ : List ℕ) (base : ℕ) (given : Ente
     pub labels-long : length labels ≡ length labels₀
     pub heap-long : length heap ≡ length heap₀
     pub ordered : Ordered (items heap len)
+    pub stamps : Keeps base labels₀ labels
     pub passed : k ≤ length nodes
     pub most : len ≤ k
     pub same : (n : ℕ) → ((i : ℕ) → i < length nodes → getD nodes i 0 < n) →
@@ -56,6 +57,7 @@ module _ (nodes offsets labels₀ heap₀ : List ℕ) (base : ℕ) (given : Ente
         labels-long = refl;
         heap-long = refl;
         ordered = empty-ordered heap₀;
+        stamps = λ n before. before;
         passed = omega arith;
         most = omega arith;
         same = λ n below. refl;
@@ -79,6 +81,7 @@ module _ (nodes offsets labels₀ heap₀ : List ℕ) (base : ℕ) (given : Ente
           labels-long = long ∙ g .labels-long;
           heap-long = long′ ∙ g .heap-long;
           ordered = o .ordered;
+          stamps = λ n before. o .stamps n (g .stamps n before);
           passed = omega arith;
           most = omega (arith, o .one-more, g .most);
           same = λ n below.
@@ -97,11 +100,12 @@ module _ (nodes offsets labels₀ heap₀ : List ℕ) (base : ℕ) (given : Ente
             (sym (drop-of-length-le (zip-ends nodes offsets) {i = k} (omega (arith, ends-length nodes offsets (given .even)))))
             ∙ g .same n below;
         ordered = g .ordered;
+        stamps = g .stamps;
         most = omega (arith, g .most, g .passed);
       }
 
 -- Labels of which no stamp is of the query are of a search that has not begun.
-module _ (n base : ℕ) (labels heap : List ℕ) (old : (v : ℕ) → v < n → stamp labels v < base) where
+module _ (n base : ℕ) (labels heap : List ℕ) (old : Before n base labels) where
   no-labels : (v : ℕ) → label-at n base labels v ≡ no-label
   unfolding label-at seen
   no-labels v =

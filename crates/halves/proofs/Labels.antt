@@ -17,7 +17,7 @@ use Rattle.rules.proofs.Heaps.{update-same, update-other}
 use Rattle.heap.specs.Items.{pair, items, sorted}
 use Rattle.heap.specs.Shape.{Ordered}
 use Rattle.heap.specs.Promises.{Pushed}
-use Rattle.halves.specs.Labels.{label, stamp, seen, label-at, settled-at, half, kept-stamp, put-label, put-settled}
+use Rattle.halves.specs.Labels.{label, stamp, Keeps, seen, label-at, settled-at, half, kept-stamp, put-label, put-settled}
 use Rattle.halves.specs.Promises.{Offers}
 
 -- Only the four numbers of v differ.
@@ -189,6 +189,28 @@ module _ (labels : List ℕ) (base v : ℕ) (room : 4 * (v + 1) ≤ length label
     unfolding seen
     label-seen = rw (label-stamp, seen, le-ltb (kept-stamp labels base v) base (kept-is .0), label-weight, label-parent, label-via)
 
+-- No store leaves a stamp beyond the two of its base.
+module _ (labels : List ℕ) (base v : ℕ) (room : 4 * (v + 1) ≤ length labels) where
+  keeps-beside : (labels′ : List ℕ) → Beside v labels labels′ → (stamp labels v < base + 2 → stamp labels′ v < base + 2) → Keeps base labels labels′
+  keeps-beside labels′ b own n before k below =
+      elim (ℕ-discrete k v) [
+        | yes e ↦ rw e (own (rw e at (before k below)))
+        | no d ↦ rw (beside-stamp b k d) (before k below)
+      ]
+
+  pub settled-keeps : Keeps base labels (put-settled labels base v)
+  settled-keeps =
+      keeps-beside (put-settled labels base v) (settled-beside labels base v room) (λ _. omega (arith, settled-stamp labels base v room))
+
+  kept-below : stamp labels v < base + 2 → kept-stamp labels base v < base + 2
+  unfolding kept-stamp
+  kept-below own = on-test (ltb (stamp labels v) base) (λ t. rw (t, kept-stamp) (omega arith)) (λ t. rw (t, kept-stamp) own)
+
+  label-keeps : (l : Label) → Keeps base labels (put-label labels base v l)
+  label-keeps l =
+      keeps-beside (put-label labels base v l) (label-beside labels base v room l)
+      (λ own. omega (arith, kept-below own, label-stamp labels base v room l))
+
 -- So what the slices stand for changes as the definitions say.
 module _ (n : ℕ) (labels heap : List ℕ) (base len v : ℕ) (below : v < n) (room : 4 * (v + 1) ≤ length labels) where
   pub half-settled : base ≤ stamp labels v → half n base (put-settled labels base v) heap len ≡ mark-settled v (half n base labels heap len)
@@ -245,6 +267,7 @@ module _ (labels heap : List ℕ) (base len v : ℕ) (l : Label) (room : 4 * (v 
         half-is = λ n below. rw is (half-offered n labels heap base len v below room l heap′ less pushed);
         ordered = pushed .ordered;
         one-more = omega arith;
+        stamps = rw is (label-keeps labels base v room l);
       }
 
   pub offers-not : seen labels base v .weight ≤ l .weight → Ordered (items heap len) → Offers labels heap labels heap base len len v l
@@ -253,4 +276,5 @@ module _ (labels heap : List ℕ) (base len v : ℕ) (l : Label) (room : 4 * (v 
         half-is = λ n below. half-left n labels heap base len v below room l more;
         ordered = ordered;
         one-more = omega arith;
+        stamps = λ n before. before;
       }

@@ -10,7 +10,7 @@ use Rattle.rules.specs.Columns.{Table}
 use Rattle.rules.specs.Query.{offer, relax}
 use Rattle.heap.specs.Items.{pair, items}
 use Rattle.heap.specs.Shape.{Ordered}
-use Rattle.halves.specs.Labels.{label, half}
+use Rattle.halves.specs.Labels.{label, Keeps, half}
 use Rattle.halves.specs.Promises.{Offering, Offers, Relaxing, Reads, Relaxes}
 
 pub range-on : (a b : ℕ) → a < b → range a b ≡ a ∷ range (a + 1) b
@@ -33,6 +33,7 @@ module _ (neighbours weights labels₀ heap₀ : List ℕ) (base len₀ node wei
     pub labels-long : length labels ≡ length labels₀
     pub heap-long : length heap ≡ length heap₀
     pub ordered : Ordered (items heap len)
+    pub stamps : Keeps base labels₀ labels
     pub most : len + (end - e) ≤ len₀ + (end - begin)
     pub same : (n : ℕ) (t : Table) → Reads n t neighbours weights begin end →
         relax t (pair weight node) (range e end) (half n base labels heap len) ≡
@@ -45,6 +46,7 @@ module _ (neighbours weights labels₀ heap₀ : List ℕ) (base len₀ node wei
         labels-long = refl;
         heap-long = refl;
         ordered = given .ordered;
+        stamps = λ n before. before;
         most = omega arith;
         same = λ n t r. refl;
       }
@@ -68,6 +70,7 @@ module _ (neighbours weights labels₀ heap₀ : List ℕ) (base len₀ node wei
           labels-long = long ∙ g .labels-long;
           heap-long = long′ ∙ g .heap-long;
           ordered = o .ordered;
+          stamps = λ n before. o .stamps n (g .stamps n before);
           most = omega (arith, o .one-more, g .most);
           same = λ n t reads.
               let x = half n base labels heap len in
@@ -89,5 +92,6 @@ module _ (neighbours weights labels₀ heap₀ : List ℕ) (base len₀ node wei
       record {
         half-is = λ n t reads. rw (range-done e end done) at (g .same n t reads);
         ordered = g .ordered;
+        stamps = g .stamps;
         most = omega (arith, g .most);
       }

@@ -2,7 +2,7 @@
 -- earlier query.
 use mathlib.Core.Bool.{Bool, true, false}
 use mathlib.Core.List.{List}
-use Prim.Native.Nat.{ℕ, _+_, _*_}
+use Prim.Native.Nat.{ℕ, _+_, _*_, _<_}
 use lib.Dec.{ltb}
 use lib.ListN.{getD, set}
 use Rattle.rules.specs.Query.{Label, no-label, Half}
@@ -18,6 +18,14 @@ of l = label (l .weight) (l .parent) (l .via)
 
 abbrev pub stamp : List ℕ → ℕ → ℕ
 stamp labels v = getD labels (4 * v + 3) 0
+
+-- whatever the labels of n nodes hold, it is of queries before the base
+abbrev pub Before : ℕ → ℕ → List ℕ → Type 0
+Before n base labels = (v : ℕ) → v < n → stamp labels v < base
+
+-- A query leaves no stamp but those of its base and the next: where there was none beyond them, the base after these is of no node.
+abbrev pub Keeps : ℕ → List ℕ → List ℕ → Type 0
+Keeps base labels labels′ = (n : ℕ) → Before n (base + 2) labels → Before n (base + 2) labels′
 
 -- the label of a node, as far as there are places for it
 unfoldable pub seen : List ℕ → ℕ → ℕ → Label

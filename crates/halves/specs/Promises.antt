@@ -8,7 +8,7 @@ use Rattle.rules.specs.Columns.{Table, entry}
 use Rattle.rules.specs.Query.{Label, zip-ends, offer, enter, relax}
 use Rattle.heap.specs.Items.{pair, items}
 use Rattle.heap.specs.Shape.{Ordered}
-use Rattle.halves.specs.Labels.{stamp, half}
+use Rattle.halves.specs.Labels.{Keeps, half}
 
 -- room for the label of v and for one item more
 pub record Offering (labels heap : List ℕ) (len v : ℕ) : Type 0 where
@@ -20,6 +20,7 @@ pub record Offers (labels heap labels′ heap′ : List ℕ) (base len r v : ℕ
   pub half-is : (n : ℕ) → v < n → half n base labels′ heap′ r ≡ offer v l (half n base labels heap len)
   pub ordered : Ordered (items heap′ r)
   pub one-more : r ≤ len + 1
+  pub stamps : Keeps base labels labels′
 
 -- the entries of a stretch can be read, and offered along
 pub record Relaxing (neighbours weights labels heap : List ℕ) (len weight begin end : ℕ) : Type 0 where
@@ -41,6 +42,7 @@ pub record Relaxes (neighbours weights labels heap labels′ heap′ : List ℕ)
       half n base labels′ heap′ r ≡ relax t (pair weight node) (range begin end) (half n base labels heap len)
   pub ordered : Ordered (items heap′ r)
   pub most : r ≤ len + (end - begin)
+  pub stamps : Keeps base labels labels′
 
 -- room for the labels of ends and for an item of each
 pub record Entering (nodes offsets labels heap : List ℕ) : Type 0 where
@@ -53,7 +55,4 @@ pub record Enters (nodes offsets labels heap labels′ heap′ : List ℕ) (base
       half n base labels′ heap′ r ≡ enter (zip-ends nodes offsets) (half n base labels heap 0)
   pub ordered : Ordered (items heap′ r)
   pub most : r ≤ length nodes
-
--- of the base after it no node has a label
-pub record Clears (n : ℕ) (labels : List ℕ) : Type 0 where
-  pub stamps : (v : ℕ) → v < n → stamp labels v ≡ 0
+  pub stamps : Keeps base labels labels′

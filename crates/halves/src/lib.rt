@@ -8,8 +8,8 @@ ghost use Prim.Native.Nat.{_+_, _*_, _^_, _<_, _≤_};
 ghost use lib.Dec.{ltb};
 ghost use lib.ListN.{length};
 ghost use Rattle.rules.specs.Query.{lower};
-ghost use Rattle.halves.specs.Labels.{of, label, seen, stamp, put-label, put-settled};
-ghost use Rattle.halves.specs.Promises.{Offering, Offers, Relaxing, Relaxes, Entering, Enters, Clears};
+ghost use Rattle.halves.specs.Labels.{of, label, seen, stamp, put-label, put-settled, Before};
+ghost use Rattle.halves.specs.Promises.{Offering, Offers, Relaxing, Relaxes, Entering, Enters};
 use rules::INVALID;
 use rules::WEIGHT_MAX;
 
@@ -183,7 +183,7 @@ pub fn enter(
 // Stamps that are of no query.
 pub fn clear(n: usize, labels: &mut [u64])
     requires { ⌜ 4 * n ≤ length (now labels) ⌝ }
-    ensures { λ _. ⌜ Clears n (now (labels .exit)) ⌝ }
+    ensures { λ _. ⌜ Before n 1 (now (labels .exit)) ⌝ }
 {
     let mut v = 0;
     while v < n {

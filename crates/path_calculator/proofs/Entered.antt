@@ -1,4 +1,4 @@
--- From cleared labels and the ends to the first round.
+-- From labels of earlier queries and the ends to the first round.
 use mathlib.Core.List.{List, [], _∷_, List·Memᴰ·head, List·Memᴰ·tail}
 use mathlib.Core.Path.{_≡_, refl, sym, ap, _∙_}
 use Prim.Native.Nat.{ℕ, zero, suc, _+_, _*_, _<_, _≤_}
@@ -14,8 +14,8 @@ use Rattle.query_laws.specs.Accepted.{EndRules, EndsRules, Accepted}
 use Rattle.query_laws.proofs.State.{counting-fits}
 use Rattle.query_laws.specs.Sound.{Both}
 use Rattle.query_laws.proofs.Accepted.{entered-both}
-use Rattle.halves.specs.Labels.{half}
-use Rattle.halves.specs.Promises.{Entering, Enters, Clears}
+use Rattle.halves.specs.Labels.{Before, half}
+use Rattle.halves.specs.Promises.{Entering, Enters}
 use Rattle.halves.proofs.Entering.{ends-from, half-untouched}
 use Rattle.rounds.specs.Rounds.{halves, Running, Ran}
 use Rattle.ends.specs.Given.{end, given, AllSmall, none}
@@ -45,30 +45,30 @@ module _ (n : ℕ) (nodes offsets : List ℕ) (r : EndsRules n (given nodes offs
         heap-room = omega (arith, r .few);
       }
 
-  pub entered-half : (labels heap labels′ heap′ : List ℕ) (len : ℕ) → Clears n labels → Enters nodes offsets labels heap labels′ heap′ 1 len →
-      half n 1 labels′ heap′ len ≡ enter (endList (given nodes offsets)) untouched
+  pub entered-half : (labels heap labels′ heap′ : List ℕ) (len base : ℕ) → Before n base labels → Enters nodes offsets labels heap labels′ heap′ base len →
+      half n base labels′ heap′ len ≡ enter (endList (given nodes offsets)) untouched
   unfolding endList
-  entered-half labels heap labels′ heap′ len c e =
+  entered-half labels heap labels′ heap′ len base old e =
       e .half-is n (λ k h. each-end k h .node-below)
-      ∙ ap (enter (zip-ends nodes offsets)) (half-untouched n 1 labels heap (λ v below. omega (arith, c .stamps v below)))
+      ∙ ap (enter (zip-ends nodes offsets)) (half-untouched n base labels heap old)
 
-module _ (n : ℕ) (h : Hierarchy) (sources so targets to fl bl fh bh : List ℕ) (s : Searching n h sources so targets to fl bl fh bh) where
+module _ (n : ℕ) (h : Hierarchy) (sources so targets to fl bl fh bh : List ℕ) (base : ℕ) (s : Searching n h sources so targets to fl bl fh bh base) where
   abbrev c : QueryCall
   c = call n h sources so targets to (s .path) (s .scratch)
 
-  module _ (fl₀ bl₀ fl′ bl′ fh′ bh′ : List ℕ) (f b : ℕ) (best : Best) (clear-f : Clears n fl₀) (clear-b : Clears n bl₀)
-      (enter-f : Enters sources so fl₀ fh fl′ fh′ 1 f) (enter-b : Enters targets to bl₀ bh bl′ bh′ 1 b)
+  module _ (fl′ bl′ fh′ bh′ : List ℕ) (f b : ℕ) (best : Best)
+      (enter-f : Enters sources so fl fh fl′ fh′ base f) (enter-b : Enters targets to bl bh bl′ bh′ base b)
       (first : best ≡ first-step (zip-ends sources so) (zip-ends targets to) none)
       (lf : length fl′ ≡ length fl) (lb : length bl′ ≡ length bl) (hf : length fh′ ≡ length fh) (hb : length bh′ ≡ length bh) where
-    at-start : halves n 1 fl′ bl′ fh′ bh′ f b best ≡ entered c
+    at-start : halves n base fl′ bl′ fh′ bh′ f b best ≡ entered c
     unfolding entered endList
     at-start =
-        let x = entered-half n sources so (s .accepted .sources) fl₀ fh fl′ fh′ f clear-f enter-f in
-        let y = entered-half n targets to (s .accepted .targets) bl₀ bh bl′ bh′ b clear-b enter-b in
+        let x = entered-half n sources so (s .accepted .sources) fl fh fl′ fh′ f base (s .fwd-before) enter-f in
+        let y = entered-half n targets to (s .accepted .targets) bl bh bl′ bh′ b base (s .bwd-before) enter-b in
         λ i. record { fwd = x i; bwd = y i; best = first i }
 
     pub running : Running n (h .ranks) (h .forward .starts) (h .forward .neighbours) (h .forward .weights) (h .backward .starts) (h .backward .neighbours) (h .backward .weights)
-        fl′ bl′ fh′ bh′ 1 f b best (length sources + length targets + getD (h .forward .starts) n 0 + getD (h .backward .starts) n 0)
+        fl′ bl′ fh′ bh′ base f b best (length sources + length targets + getD (h .forward .starts) n 0 + getD (h .backward .starts) n 0)
     unfolding table used begin opposite
     running =
         record {
@@ -95,19 +95,30 @@ module _ (n : ℕ) (h : Hierarchy) (sources so targets to fl bl fh bh : List ℕ
                 bwd-room = omega (arith, s .accepted .targets .listed, s .accepted .targets .few, s .bwd-heap, hb);
                 fwd-labels = omega (arith, s .fwd-labels, lf);
                 bwd-labels = omega (arith, s .bwd-labels, lb);
-                stamps = omega arith;
+                stamps = s .stamps;
               };
           enough = omega (arith, both .fwd .room, both .bwd .room, s .accepted .sources .listed, s .accepted .targets .listed);
         }
       where
-        both : Both n h (endList (given sources so)) (endList (given targets to)) (halves n 1 fl′ bl′ fh′ bh′ f b best)
+        both : Both n h (endList (given sources so)) (endList (given targets to)) (halves n base fl′ bl′ fh′ bh′ f b best)
         both = rw at-start (entered-both c (s .accepted))
 
-    pub searched-is : (fl″ bl″ fh″ bh″ : List ℕ) (best′ : Best) →
-        Ran n (h .ranks) (h .forward .starts) (h .forward .neighbours) (h .forward .weights) (h .backward .starts) (h .backward .neighbours) (h .backward .weights)
-        fl′ bl′ fh′ bh′ 1 f b best (length sources + length targets + getD (h .forward .starts) n 0 + getD (h .backward .starts) n 0) fl″ bl″ fh″ bh″ best′ →
-        (path scratch : List ℕ) → searched (call n h sources so targets to path scratch) ≡ halves n 1 fl″ bl″ fh″ bh″ 0 0 best′
-    unfolding searched query-fuel used begin running entered
-    searched-is fl″ bl″ fh″ bh″ best′ r path scratch =
-        ap (rounds h (length sources + length targets + getD (h .forward .starts) n 0 + getD (h .backward .starts) n 0)) (sym at-start)
-        ∙ r .is running
+    module _ (fl″ bl″ fh″ bh″ : List ℕ) (best′ : Best)
+        (r : Ran n (h .ranks) (h .forward .starts) (h .forward .neighbours) (h .forward .weights) (h .backward .starts) (h .backward .neighbours) (h .backward .weights)
+        fl′ bl′ fh′ bh′ base f b best (length sources + length targets + getD (h .forward .starts) n 0 + getD (h .backward .starts) n 0) fl″ bl″ fh″ bh″ best′) where
+      pub searched-is : (path scratch : List ℕ) → searched (call n h sources so targets to path scratch) ≡ halves n base fl″ bl″ fh″ bh″ 0 0 best′
+      unfolding searched query-fuel used begin running entered
+      searched-is path scratch =
+          ap (rounds h (length sources + length targets + getD (h .forward .starts) n 0 + getD (h .backward .starts) n 0)) (sym at-start)
+          ∙ r .is running
+
+-- The stamps that a search leaves.
+module _ {n : ℕ} {h : Hierarchy} {sources so targets to fl bl fh bh fl′ bl′ fh′ bh′ fl″ bl″ fh″ bh″ : List ℕ} {base f b fuel : ℕ} {best best′ : Best}
+    {ranks fs fm fw bs bm bw : List ℕ} (s : Searching n h sources so targets to fl bl fh bh base) where
+  pub fwd-left : Enters sources so fl fh fl′ fh′ base f → Ran n ranks fs fm fw bs bm bw fl′ bl′ fh′ bh′ base f b best fuel fl″ bl″ fh″ bh″ best′ →
+      Before n (base + 2) fl″
+  fwd-left e r = r .fwd-stamps n (e .stamps n (λ v below. omega (arith, s .fwd-before v below)))
+
+  pub bwd-left : Enters targets to bl bh bl′ bh′ base b → Ran n ranks fs fm fw bs bm bw fl′ bl′ fh′ bh′ base f b best fuel fl″ bl″ fh″ bh″ best′ →
+      Before n (base + 2) bl″
+  bwd-left e r = r .bwd-stamps n (e .stamps n (λ v below. omega (arith, s .bwd-before v below)))

@@ -7,7 +7,7 @@ ghost use Rattle.turns.specs.Turning.{of};
 ghost use Rattle.path_calculator.specs.Searching.{Searching, Searched};
 use turns::Best;
 
-// Labels are cleared, so that whatever the slices held does not matter; 1 is then a base of which no stamp is.
+// What the labels hold is of earlier queries: no stamp is of this base, or of a later one.
 pub fn search(
     n: usize,
     ranks: &[u32],
@@ -31,15 +31,14 @@ pub fn search(
     bl: &mut [u64],
     fh: &mut [u64],
     bh: &mut [u64],
+    base: u64,
 ) -> Best
-    requires { ⌜ Searching n (lent (now ranks) (columns (now fs) (now fb) (now fm) (now fw) (now fi) (now fo)) (columns (now bs) (now bb) (now bm) (now bw) (now bi) (now bo))) (now sources) (now «source_offsets») (now targets) (now «target_offsets») (now fl) (now bl) (now fh) (now bh) ⌝ }
-    ensures { λ r. ⌜ Searched n (lent (now (ranks .entry)) (columns (now (fs .entry)) (now (fb .entry)) (now (fm .entry)) (now (fw .entry)) (now (fi .entry)) (now (fo .entry))) (columns (now (bs .entry)) (now (bb .entry)) (now (bm .entry)) (now (bw .entry)) (now (bi .entry)) (now (bo .entry)))) (now (sources .entry)) (now («source_offsets» .entry)) (now (targets .entry)) (now («target_offsets» .entry)) (now (fl .entry)) (now (bl .entry)) (now (fh .entry)) (now (bh .entry)) (now (fl .exit)) (now (bl .exit)) (now (fh .exit)) (now (bh .exit)) (of r) ⌝ }
+    requires { ⌜ Searching n (lent (now ranks) (columns (now fs) (now fb) (now fm) (now fw) (now fi) (now fo)) (columns (now bs) (now bb) (now bm) (now bw) (now bi) (now bo))) (now sources) (now «source_offsets») (now targets) (now «target_offsets») (now fl) (now bl) (now fh) (now bh) base ⌝ }
+    ensures { λ r. ⌜ Searched n (lent (now (ranks .entry)) (columns (now (fs .entry)) (now (fb .entry)) (now (fm .entry)) (now (fw .entry)) (now (fi .entry)) (now (fo .entry))) (columns (now (bs .entry)) (now (bb .entry)) (now (bm .entry)) (now (bw .entry)) (now (bi .entry)) (now (bo .entry)))) (now (sources .entry)) (now («source_offsets» .entry)) (now (targets .entry)) (now («target_offsets» .entry)) (now (fl .entry)) (now (bl .entry)) (now (fh .entry)) (now (bh .entry)) base (now (fl .exit)) (now (bl .exit)) (now (fh .exit)) (now (bh .exit)) (of r) ⌝ }
 {
-    halves::clear(n, fl);
-    halves::clear(n, bl);
     let best = ends::first_step(sources, source_offsets, targets, target_offsets);
-    let f = halves::enter(sources, source_offsets, fl, fh, 1);
-    let b = halves::enter(targets, target_offsets, bl, bh, 1);
+    let f = halves::enter(sources, source_offsets, fl, fh, base);
+    let b = halves::enter(targets, target_offsets, bl, bh, base);
     let fuel = sources.len() + targets.len() + fs[n] as usize + bs[n] as usize;
     rounds::rounds(
         n,
@@ -54,7 +53,7 @@ pub fn search(
         bl,
         fh,
         bh,
-        1,
+        base,
         f,
         b,
         best,

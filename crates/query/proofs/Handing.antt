@@ -72,6 +72,6 @@ module _ (c : QueryCall) (sum : ℕ) (w path : List ℕ) (e : c .path ≡ path) 
         walked t = record { number = 0; weight = sum; walk = t; path = over (c .path) w }
 
 -- for any limit
-pub extracting : (n : ℕ) (h : Hierarchy) (fl bl : List ℕ) (v : ℕ) → Handing n h fl bl v → (limit : ℕ) → limit < 2 ^ 64 → Extracting n h fl bl 1 v limit
-extracting n h fl bl v p limit fits =
+pub extracting : (n : ℕ) (h : Hierarchy) (fl bl : List ℕ) (base v : ℕ) → Handing n h fl bl base v → (limit : ℕ) → limit < 2 ^ 64 → Extracting n h fl bl base v limit
+extracting n h fl bl base v p limit fits =
     record { rules = p .rules; below = p .below; fwd-room = p .fwd-room; bwd-room = p .bwd-room; fwd = p .fwd; bwd = p .bwd; fits = fits }

@@ -1,12 +1,13 @@
 -- What a query leaves, beside the paper's answer.
 use mathlib.Core.List.{List, _++_}
 use mathlib.Core.Path.{_≡_}
-use Prim.Native.Nat.{ℕ}
+use Prim.Native.Nat.{ℕ, _+_, _^_, _<_}
 use lib.ListN.{length, take}
 use Rattle.rules.specs.Columns.{Hierarchy, forward, backward}
 use Rattle.rules.specs.Refusals.{QueryCall}
 use Rattle.rules.specs.Query.{Answered, searched, route, handed-back}
-use Rattle.halves.specs.Labels.{half}
+use Rattle.query_laws.specs.Accepted.{Accepted}
+use Rattle.halves.specs.Labels.{Before, half}
 use Rattle.paths.specs.Climbs.{half-walk, Labelled, Extracting}
 use Rattle.query.specs.declared.Answer.{Answer}
 
@@ -32,9 +33,22 @@ abbrev pub found : QueryCall → Answered
 found c = route c (searched c)
 
 -- labels of both sides that lead from a meeting node
-abbrev pub Handing : ℕ → Hierarchy → List ℕ → List ℕ → ℕ → Type 0
-Handing n h fl bl v = Extracting n h fl bl 1 v 0
+abbrev pub Handing : ℕ → Hierarchy → List ℕ → List ℕ → ℕ → ℕ → Type 0
+Handing n h fl bl base v = Extracting n h fl bl base v 0
 
-pub record HandedBack (n : ℕ) (h : Hierarchy) (fl bl : List ℕ) (v sum : ℕ) (r : Answer) (path path′ : List ℕ) : Type 0 where
-  pub tells : (f : Labelled n h forward fl 1) (b : Labelled n h backward bl 1) (c : QueryCall) → c .path ≡ path →
-      Tells (handed-back c sum (half-walk n h forward (half n 1 fl (f .heap) (f .len)) v ++ half-walk n h backward (half n 1 bl (b .heap) (b .len)) v)) r path′
+pub record HandedBack (n : ℕ) (h : Hierarchy) (fl bl : List ℕ) (base v sum : ℕ) (r : Answer) (path path′ : List ℕ) : Type 0 where
+  pub tells : (f : Labelled n h forward fl base) (b : Labelled n h backward bl base) (c : QueryCall) → c .path ≡ path →
+      Tells (handed-back c sum (half-walk n h forward (half n base fl (f .heap) (f .len)) v ++ half-walk n h backward (half n base bl (b .heap) (b .len)) v)) r path′
+
+-- a query that rows 20 to 24 let pass, over labels of earlier ones
+pub record Routing (c : QueryCall) (fl bl : List ℕ) (base : ℕ) : Type 0 where
+  pub accepted : Accepted c
+  pub fwd-before : Before (c .nodes) base fl
+  pub bwd-before : Before (c .nodes) base bl
+  pub stamps : base + 1 < 2 ^ 64
+
+-- its route; the labels are then of queries before the base after the next
+pub record Routed (c : QueryCall) (r : Answer) (path fl bl : List ℕ) (base : ℕ) : Type 0 where
+  pub tells : Tells (found c) r path
+  pub fwd-before : Before (c .nodes) (base + 2) fl
+  pub bwd-before : Before (c .nodes) (base + 2) bl

@@ -8,12 +8,11 @@ ghost use Prim.Native.Nat.{_^_, _<_, _≤_};
 ghost use lib.ListN.{length};
 ghost use Rattle.rules.specs.Refusals.{query-refusal};
 ghost use Rattle.rules.specs.Query.{query};
-ghost use Rattle.query_laws.specs.Accepted.{Accepted};
 ghost use Rattle.tables.specs.Lent.{columns, lent};
 ghost use Rattle.ends.specs.Given.{given};
 ghost use Rattle.path_calculator.specs.Searching.{call};
 ghost use Rattle.query.specs.Rows.{ends-refusal, room-short};
-ghost use Rattle.query.specs.Answers.{answer, Tells, Hands, found, Handing, HandedBack};
+ghost use Rattle.query.specs.Answers.{answer, Tells, Hands, Handing, HandedBack, Routing, Routed};
 use rules::INVALID;
 use rules::WEIGHT_MAX;
 
@@ -152,12 +151,13 @@ fn hand_back(
     bo: &[u32],
     fl: &[u64],
     bl: &[u64],
+    base: u64,
     v: usize,
     sum: u64,
     path: &mut [u32],
 ) -> Answer
-    requires { ⌜ Handing n (lent (now ranks) (columns (now fs) (now fb) (now fm) (now fw) (now fi) (now fo)) (columns (now bs) (now bb) (now bm) (now bw) (now bi) (now bo))) (now fl) (now bl) v ⌝ }
-    ensures { λ r. ⌜ HandedBack n (lent (now (ranks .entry)) (columns (now (fs .entry)) (now (fb .entry)) (now (fm .entry)) (now (fw .entry)) (now (fi .entry)) (now (fo .entry))) (columns (now (bs .entry)) (now (bb .entry)) (now (bm .entry)) (now (bw .entry)) (now (bi .entry)) (now (bo .entry)))) (now (fl .entry)) (now (bl .entry)) v sum r (now (path .entry)) (now (path .exit)) ⌝ }
+    requires { ⌜ Handing n (lent (now ranks) (columns (now fs) (now fb) (now fm) (now fw) (now fi) (now fo)) (columns (now bs) (now bb) (now bm) (now bw) (now bi) (now bo))) (now fl) (now bl) base v ⌝ }
+    ensures { λ r. ⌜ HandedBack n (lent (now (ranks .entry)) (columns (now (fs .entry)) (now (fb .entry)) (now (fm .entry)) (now (fw .entry)) (now (fi .entry)) (now (fo .entry))) (columns (now (bs .entry)) (now (bb .entry)) (now (bm .entry)) (now (bw .entry)) (now (bi .entry)) (now (bo .entry)))) (now (fl .entry)) (now (bl .entry)) base v sum r (now (path .entry)) (now (path .exit)) ⌝ }
 {
     let room = path.len();
     let count = paths::extract_nodes(
@@ -177,7 +177,7 @@ fn hand_back(
         bo,
         fl,
         bl,
-        1,
+        base,
         v,
         &mut path[..0],
         room + 1,
@@ -206,7 +206,7 @@ fn hand_back(
         bo,
         fl,
         bl,
-        1,
+        base,
         v,
         path,
         count,
@@ -218,8 +218,8 @@ fn hand_back(
     }
 }
 
-// The route of a query that rows 20 to 24 let pass.
-fn route(
+// The route of a query that rows 20 to 24 let pass, over labels of earlier queries: no stamp is of this base, or of a later one.
+pub fn route(
     n: usize,
     ranks: &[u32],
     fs: &[u32],
@@ -243,9 +243,10 @@ fn route(
     bl: &mut [u64],
     fh: &mut [u64],
     bh: &mut [u64],
+    base: u64,
 ) -> Answer
-    requires { ⌜ Accepted (call n (lent (now ranks) (columns (now fs) (now fb) (now fm) (now fw) (now fi) (now fo)) (columns (now bs) (now bb) (now bm) (now bw) (now bi) (now bo))) (now sources) (now «source_offsets») (now targets) (now «target_offsets») (now path) (length (now fl) ∷ length (now bl) ∷ length (now fh) ∷ length (now bh) ∷ [])) ⌝ }
-    ensures { λ r. ⌜ Tells (found (call n (lent (now (ranks .entry)) (columns (now (fs .entry)) (now (fb .entry)) (now (fm .entry)) (now (fw .entry)) (now (fi .entry)) (now (fo .entry))) (columns (now (bs .entry)) (now (bb .entry)) (now (bm .entry)) (now (bw .entry)) (now (bi .entry)) (now (bo .entry)))) (now (sources .entry)) (now («source_offsets» .entry)) (now (targets .entry)) (now («target_offsets» .entry)) (now (path .entry)) (length (now (fl .entry)) ∷ length (now (bl .entry)) ∷ length (now (fh .entry)) ∷ length (now (bh .entry)) ∷ []))) r (now (path .exit)) ⌝ }
+    requires { ⌜ Routing (call n (lent (now ranks) (columns (now fs) (now fb) (now fm) (now fw) (now fi) (now fo)) (columns (now bs) (now bb) (now bm) (now bw) (now bi) (now bo))) (now sources) (now «source_offsets») (now targets) (now «target_offsets») (now path) (length (now fl) ∷ length (now bl) ∷ length (now fh) ∷ length (now bh) ∷ [])) (now fl) (now bl) base ⌝ }
+    ensures { λ r. ⌜ Routed (call n (lent (now (ranks .entry)) (columns (now (fs .entry)) (now (fb .entry)) (now (fm .entry)) (now (fw .entry)) (now (fi .entry)) (now (fo .entry))) (columns (now (bs .entry)) (now (bb .entry)) (now (bm .entry)) (now (bw .entry)) (now (bi .entry)) (now (bo .entry)))) (now (sources .entry)) (now («source_offsets» .entry)) (now (targets .entry)) (now («target_offsets» .entry)) (now (path .entry)) (length (now (fl .entry)) ∷ length (now (bl .entry)) ∷ length (now (fh .entry)) ∷ length (now (bh .entry)) ∷ [])) r (now (path .exit)) (now (fl .exit)) (now (bl .exit)) base ⌝ }
 {
     let best = path_calculator::search(
         n,
@@ -270,6 +271,7 @@ fn route(
         bl,
         fh,
         bh,
+        base,
     );
     if best.node == INVALID {
         return Answer {
@@ -295,13 +297,15 @@ fn route(
         bo,
         fl,
         bl,
+        base,
         best.node as usize,
         best.sum,
         path,
     )
 }
 
-// The whole query: the refusals, then the route.
+// The whole query: the refusals, then the route. Labels are cleared, so that whatever the slices held does not matter; 1 is then a base
+// of which no stamp is.
 fn calc_path(
     n: usize,
     ranks: &[u32],
@@ -361,6 +365,8 @@ fn calc_path(
             count: 0,
         };
     }
+    halves::clear(n, fl);
+    halves::clear(n, bl);
     route(
         n,
         ranks,
@@ -385,6 +391,7 @@ fn calc_path(
         bl,
         fh,
         bh,
+        1,
     )
 }
 

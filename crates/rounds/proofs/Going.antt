@@ -16,7 +16,7 @@ use Rattle.query_laws.specs.Sound.{Sound, Both, both-loads}
 use Rattle.query_laws.proofs.State.{better}
 use Rattle.query_laws.proofs.Turns.{AfterTurn, turn-keeps, round-keeps, round-fewer}
 use Rattle.query_laws.proofs.Bounds.{label-at-most}
-use Rattle.halves.specs.Labels.{seen, half}
+use Rattle.halves.specs.Labels.{Keeps, seen, half}
 use Rattle.halves.proofs.Labels.{label-in}
 use Rattle.turns.specs.Turning.{View, Turning, Turns}
 use Rattle.rounds.specs.Rounds.{halves, Heap, Rounding, Rounded, Running}
@@ -124,6 +124,8 @@ module _ (n : ℕ) (ranks fs fm fw bs bm bw fl bl fh bh : List ℕ) (base f b : 
         is = λ t. round-is t fl′ fh′ f′ best′ long x bl′ bh′ b′ best″ y;
         fwd = record { ordered = x .ordered; held = x .held };
         bwd = record { ordered = y .ordered; held = y .held };
+        fwd-stamps = x .stamps;
+        bwd-stamps = y .stamps;
       }
 
 -- Whether a heap is empty is whether it has no items.
@@ -166,6 +168,8 @@ module _ (n : ℕ) (ranks fs fm fw bs bm bw fl₀ bl₀ fh₀ bh₀ : List ℕ) 
     pub bl-long : length bl ≡ length bl₀
     pub fh-long : length fh ≡ length fh₀
     pub bh-long : length bh ≡ length bh₀
+    pub fwd-stamps : Keeps base fl₀ fl
+    pub bwd-stamps : Keeps base bl₀ bl
     pub enough : both-loads n h (halves n base fl bl fh bh f b best) ≤ left
     pub same : rounds h left (halves n base fl bl fh bh f b best) ≡ rounds h fuel (halves n base fl₀ bl₀ fh₀ bh₀ f₀ b₀ best₀)
 
@@ -179,6 +183,8 @@ module _ (n : ℕ) (ranks fs fm fw bs bm bw fl₀ bl₀ fh₀ bh₀ : List ℕ) 
         bl-long = refl;
         fh-long = refl;
         bh-long = refl;
+        fwd-stamps = λ n before. before;
+        bwd-stamps = λ n before. before;
         enough = t .enough;
         same = refl;
       }
@@ -240,6 +246,8 @@ module _ (n : ℕ) (ranks fs fm fw bs bm bw fl₀ bl₀ fh₀ bh₀ : List ℕ) 
             bl-long = c ∙ g .bl-long;
             fh-long = d ∙ g .fh-long;
             bh-long = e ∙ g .bh-long;
+            fwd-stamps = λ n before. r .fwd-stamps n (g .fwd-stamps n before);
+            bwd-stamps = λ n before. r .bwd-stamps n (g .bwd-stamps n before);
             enough = rw is at fewer-fuel;
             same =
                 ap (rounds h (left - 1)) (sym is)

@@ -9,7 +9,7 @@ use Rattle.rules.specs.Query.{End, Best, Halves, round, rounds}
 use Rattle.heap.specs.Items.{items}
 use Rattle.heap.specs.Shape.{Ordered}
 use Rattle.query_laws.specs.Sound.{Both, both-loads}
-use Rattle.halves.specs.Labels.{half}
+use Rattle.halves.specs.Labels.{Keeps, half}
 use Rattle.turns.specs.Turning.{View}
 
 -- both searches, in their slices
@@ -42,6 +42,8 @@ pub record Rounded (n : ℕ) (ranks fs fm fw bs bm bw fl bl fh bh : List ℕ) (b
       round (t .h) (halves n base fl bl fh bh f b best) ≡ halves n base fl′ bl′ fh′ bh′ f′ b′ best′
   pub fwd : Heap fh′ f′
   pub bwd : Heap bh′ b′
+  pub fwd-stamps : Keeps base fl fl′
+  pub bwd-stamps : Keeps base bl bl′
 
 pub record Running (n : ℕ) (ranks fs fm fw bs bm bw fl bl fh bh : List ℕ) (base f b : ℕ) (best : Best) (fuel : ℕ) : Type 0 where
   pub rounding : Rounding n ranks fs fm fw bs bm bw fl bl fh bh base f b best
@@ -51,3 +53,5 @@ pub record Running (n : ℕ) (ranks fs fm fw bs bm bw fl bl fh bh : List ℕ) (b
 pub record Ran (n : ℕ) (ranks fs fm fw bs bm bw fl bl fh bh : List ℕ) (base f b : ℕ) (best : Best) (fuel : ℕ) (fl′ bl′ fh′ bh′ : List ℕ) (best′ : Best) : Type 0 where
   pub is : (t : Running n ranks fs fm fw bs bm bw fl bl fh bh base f b best fuel) →
       rounds (t .rounding .h) fuel (halves n base fl bl fh bh f b best) ≡ halves n base fl′ bl′ fh′ bh′ 0 0 best′
+  pub fwd-stamps : Keeps base fl fl′
+  pub bwd-stamps : Keeps base bl bl′

@@ -15,9 +15,9 @@ use Rattle.rules.specs.Query.{Best, improve, Label, no-label, Half, mark-settle
 use Rattle.rules.proofs.Cases.{on-test}
 use Rattle.heap.specs.Items.{pair}
 use Rattle.query_laws.proofs.Offers.{falls, after-relax}
-use Rattle.halves.specs.Labels.{stamp, seen, half, put-settled}
+use Rattle.halves.specs.Labels.{stamp, Keeps, seen, half, put-settled}
 use Rattle.halves.specs.Promises.{Reads, Relaxes}
-use Rattle.halves.proofs.Labels.{label-in, half-settled}
+use Rattle.halves.proofs.Labels.{label-in, settled-keeps, half-settled}
 use Rattle.turns.specs.Turning.{best, Settling, Settles}
 
 -- the code's two ways to say that a sum is less
@@ -59,6 +59,7 @@ settles neighbours weights labels heap labels′ heap′ base len r v weight beg
           ∙ ap (mark-settled v) (a .half-is n t reads);
       ordered = a .ordered;
       most = a .most;
+      stamps = λ n before. settled-keeps labels′ base v (omega (arith, s .label-room, long)) n (a .stamps n before);
     }
   where
     light : (n : ℕ) (t : Table) → v < n → Reads n t neighbours weights begin end → seen labels′ base v .weight < noWeight
@@ -69,3 +70,8 @@ settles neighbours weights labels heap labels′ heap′ base len r v weight beg
         let was = ap (λ (l : Label). l .weight) (label-in n base v labels below) in
         let is = ap (λ (l : Label). l .weight) (label-in n base v labels′ below) in
         omega (arith, s .labelled, fall, now, was, is)
+
+-- from labels that are those of the start
+pub settled-stamps : {neighbours weights now labels heap labels′ heap′ : List ℕ} {base len r v weight begin end : ℕ} → now ≡ labels →
+    Settles neighbours weights now heap labels′ heap′ base len r v weight begin end → Keeps base labels labels′
+settled-stamps same a = rw same at (a .stamps)

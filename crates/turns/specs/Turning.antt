@@ -11,7 +11,7 @@ use Rattle.rules.specs.Query.{End, Best, Half, relax, mark-settled, turn}
 use Rattle.heap.specs.Items.{pair, items}
 use Rattle.heap.specs.Shape.{Ordered}
 use Rattle.query_laws.specs.Sound.{Sound}
-use Rattle.halves.specs.Labels.{seen, half}
+use Rattle.halves.specs.Labels.{Keeps, seen, half}
 use Rattle.halves.specs.Promises.{Relaxing, Reads}
 use Rattle.turns.specs.declared.Best.{Best as Held}
 
@@ -34,6 +34,7 @@ pub record Settles (neighbours weights labels heap labels′ heap′ : List ℕ)
       half n base labels′ heap′ r ≡ mark-settled v (relax t (pair weight v) (range begin end) (half n base labels heap len))
   pub ordered : Ordered (items heap′ r)
   pub most : r ≤ len + (end - begin)
+  pub stamps : Keeps base labels labels′
 
 -- the columns that a turn reads are those of a hierarchy: a side's own table, and the other
 pub record View (h : Hierarchy) (s : Side) (ranks starts neighbours weights ts tm tw : List ℕ) : Type 0 where
@@ -70,3 +71,4 @@ pub record Turns (n : ℕ) (ranks starts neighbours weights ts tm tw labels heap
       record { half = half n base labels′ heap′ r; best = b′ }
   pub ordered : Ordered (items heap′ r)
   pub held : 2 * r ≤ length heap′
+  pub stamps : Keeps base labels labels′

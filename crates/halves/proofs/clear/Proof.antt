@@ -49,7 +49,7 @@ same-length : tie.Need-same-length Inv-loop μ-loop
 same-length c = c .before .loop .inv .2
 
 returns : tie.Need-returns Inv-loop μ-loop
-returns c = record { stamps = λ k h. c .before .loop .inv .3 k (omega (arith, c .loop-test .left)) }
+returns c = λ k h. omega (arith, c .before .loop .inv .3 k (omega (arith, c .loop-test .left)))
 
 pub clear-spec : {M : Type 1} → statement M
 clear-spec =

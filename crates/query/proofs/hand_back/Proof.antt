@@ -24,10 +24,10 @@ slice-aggregate-extract-nodes : tie.Need-slice-aggregate-extract-nodes
 slice-aggregate-extract-nodes c = search needs
 
 add-extract-nodes : tie.Need-add-extract-nodes
-add-extract-nodes c = omega (arith, lent→start c .good .1 .1 .1 .1 .1 .1 .1 .1 .1 .1 .1 .1 .1 .1 .1 .1 .1 .1 .0 .1)
+add-extract-nodes c = omega (arith, lent→start c .good .1 .1 .1 .1 .1 .1 .1 .1 .1 .1 .1 .1 .1 .1 .1 .1 .1 .1 .1 .0 .1)
 
 extract-nodes-requires : tie.Need-extract-nodes-requires
-extract-nodes-requires c κs = extracting _ _ _ _ _ (lent→start c .pre) _ (omega (arith, lent→start c .good .1 .1 .1 .1 .1 .1 .1 .1 .1 .1 .1 .1 .1 .1 .1 .1 .1 .1 .0 .1))
+extract-nodes-requires c κs = extracting _ _ _ _ _ _ (lent→start c .pre) _ (omega (arith, lent→start c .good .1 .1 .1 .1 .1 .1 .1 .1 .1 .1 .1 .1 .1 .1 .1 .1 .1 .1 .1 .0 .1))
 
 same-length : tie.Need-same-length
 same-length c = search needs
@@ -41,7 +41,7 @@ returns c =
 extract-nodes-requires-2 : tie.Need-extract-nodes-requires-2
 extract-nodes-requires-2 c κs =
     let start = counted→start (c .before .before .before) in
-    extracting _ _ _ _ _ (start .pre) _ (omega (arith, c .before .if1 .left, start .good .1 .1 .1 .1 .1 .1 .1 .1 .1 .1 .1 .1 .1 .1 .1 .1 .1 .1 .0 .1))
+    extracting _ _ _ _ _ _ (start .pre) _ (omega (arith, c .before .if1 .left, start .good .1 .1 .1 .1 .1 .1 .1 .1 .1 .1 .1 .1 .1 .1 .1 .1 .1 .1 .1 .0 .1))
 
 same-length-2 : tie.Need-same-length-2
 same-length-2 c = search needs

@@ -29,7 +29,7 @@ abbrev else→search : tie.Else1 → tie.After-search
 else→search c = known→search (c .before)
 
 search-requires : tie.Need-search-requires
-search-requires c κs = searching _ _ _ _ _ _ _ _ _ _ _ (scratch→start (c .before .before .before .before) .pre)
+search-requires c κs = searching _ _ _ _ _ _ _ _ _ _ _ _ (scratch→start (c .before .before .before .before) .pre)
 
 same-length : tie.Need-same-length
 same-length c = search needs
@@ -46,7 +46,7 @@ same-length-4 c = search needs
 returns : tie.Need-returns
 returns c =
     let s = known→search (c .before) in
-    none-found _ _ _ _ _ _ _ _ _ _ _ (search→start s .pre) _ _ _ _ _ (s .search .ensures) (c .if1 .taken)
+    none-found _ _ _ _ _ _ _ _ _ _ _ _ (search→start s .pre) _ _ _ _ _ (s .search .ensures) (c .if1 .taken)
 
 cast-hand-back : tie.Need-cast-hand-back
 cast-hand-back c = search needs
@@ -55,7 +55,7 @@ hand-back-requires : tie.Need-hand-back-requires
 hand-back-requires c κs =
     let e = c .before .before .before .before in
     let s = else→search e in
-    handing _ _ _ _ _ _ _ _ _ _ _ (search→start s .pre) _ _ _ _ _ (s .search .ensures) (e .if1 .left) (s .search .kept .1 .1 .1 .1 .1 .1 .1 .1 .1 .1 .1 .1 .1 .1 .1 .1 .1 .1 .0) (s .search .kept .1 .1 .1 .1 .1 .1 .1 .1 .1 .1 .1 .1 .1 .1 .1 .1 .1 .1 .1 .0)
+    handing _ _ _ _ _ _ _ _ _ _ _ _ (search→start s .pre) _ _ _ _ _ (s .search .ensures) (e .if1 .left) (s .search .kept .1 .1 .1 .1 .1 .1 .1 .1 .1 .1 .1 .1 .1 .1 .1 .1 .1 .1 .0) (s .search .kept .1 .1 .1 .1 .1 .1 .1 .1 .1 .1 .1 .1 .1 .1 .1 .1 .1 .1 .1 .0)
 
 same-length-5 : tie.Need-same-length-5
 same-length-5 c = search needs
@@ -76,7 +76,7 @@ returns-2 : tie.Need-returns-2
 returns-2 c =
     let e = c .before .before .before .before .before .before .before in
     let s = else→search e in
-    walk-found _ _ _ _ _ _ _ _ _ _ _ (search→start s .pre) _ _ _ _ _ (s .search .ensures) (e .if1 .left) _ _ (c .before .before .hand-back .ensures)
+    walk-found _ _ _ _ _ _ _ _ _ _ _ _ (search→start s .pre) _ _ _ _ _ (s .search .ensures) (e .if1 .left) _ _ (c .before .before .hand-back .ensures)
 
 pub route-spec : {M : Type 1} → statement M
 route-spec =

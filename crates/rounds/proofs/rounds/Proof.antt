@@ -65,7 +65,13 @@ same-length-4 : tie.Need-same-length-4 Inv-loop μ-loop
 same-length-4 c = c .before .loop .inv ((at-loop→start (c .before)) .pre) .bh-long
 
 returns : tie.Need-returns Inv-loop μ-loop
-returns c = record { is = λ t. done _ _ _ _ _ _ _ _ _ _ _ _ _ _ _ _ _ t _ _ _ _ _ _ _ _ (c .before .loop .inv t) (c .loop-test .left) }
+returns c =
+    let g = c .before .loop .inv ((at-loop→start (c .before)) .pre) in
+    record {
+      is = λ t. done _ _ _ _ _ _ _ _ _ _ _ _ _ _ _ _ _ t _ _ _ _ _ _ _ _ (c .before .loop .inv t) (c .loop-test .left);
+      fwd-stamps = g .fwd-stamps;
+      bwd-stamps = g .bwd-stamps;
+    }
 
 pub rounds-spec : {M : Type 1} → statement M
 rounds-spec =

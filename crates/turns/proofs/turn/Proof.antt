@@ -15,6 +15,7 @@ use Rattle.turns.specs.declared.Best.{Best as Held}
 use Rattle.turns.specs.Turning.{of, Turning}
 use Rattle.turns.proofs.Reading.{lower-by, hit, miss, none-left}
 use Rattle.turns.proofs.Turning.{Going, going-first, done-empty, r-below, starts-long, other-starts-long, ranks-long, scan-neighbour, scan-weight, scan-label, node-below, label-fits, facing-fits, node-small, meeting-fits, next-settled, done-heavy, next-stalled, settling, done-settles}
+use Rattle.turns.proofs.Settling.{settled-stamps}
 use Rattle.turns.proofs.turn.Statement.{statement}
 use Rattle.turns.proofs.turn.Tie as tie
 
@@ -299,6 +300,7 @@ returns c =
       turned = λ t y a. done-empty _ _ _ _ _ _ _ _ _ _ _ _ _ (of (s .args .best)) t _ _ (o .inv .2 t) (c .outer-test .left) y ∙ (λ j. record { half = half (s .args .n) (s .args .base) (sym (o .inv .0) j) (o .heap) (o .len); best = of (sym (o .inv .1) j) });
       ordered = o .inv .2 (s .pre) .ordered;
       held = o .inv .2 (s .pre) .held;
+      stamps = rw (o .inv .0) (λ n before. before);
     }
 
 same-length-3 : tie.Need-same-length-3 Inv-loop μ-loop Inv-outer μ-outer
@@ -320,6 +322,7 @@ returns-2 c =
           ∙ (λ j. record { half = half (s .args .n) (s .args .base) (sym (o .inv .0) j) (pop .pop .last .0) (o .len - 1); best = of (sym (o .inv .1) j) });
       ordered = p .ordered;
       held = omega (arith, p .long, (at-outer .outer .inv .2 (s .pre)) .held);
+      stamps = rw (o .inv .0) (λ n before. before);
     }
 
 same-length-5 : tie.Need-same-length-5 Inv-loop μ-loop Inv-outer μ-outer
@@ -345,6 +348,7 @@ returns-3 c =
           ∙ (λ j. record { half = half (s .args .n) (s .args .base) (done .last .1 .1 .0) (done .last .1 .1 .1 .0) (done .result); best = met j });
       ordered = done .ensures .ordered;
       held = omega (arith, done .ensures .most, room, done .kept .1 .1 .1 .0);
+      stamps = settled-stamps (o .inv .0) (done .ensures);
     }
 
 pub turn-spec : {M : Type 1} → statement M
