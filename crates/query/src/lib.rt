@@ -4,8 +4,8 @@
 // h heap of either side.
 ghost use mathlib.Core.List.{[], _∷_};
 ghost use mathlib.Core.Path.{_≡_};
-ghost use Prim.Native.Nat.{_^_, _<_, _≤_};
-ghost use lib.ListN.{length};
+ghost use Prim.Native.Nat.{_<_, _≤_};
+ghost use lib.ListN.{length, getD};
 ghost use Rattle.rules.specs.Refusals.{query-refusal};
 ghost use Rattle.rules.specs.Query.{query};
 ghost use Rattle.tables.specs.Lent.{columns, lent};
@@ -47,19 +47,19 @@ fn ends_refusal(
     0
 }
 
-// Whether a length that is lent is below what row 24 asks; `f` and `b` are the entries of the tables.
-fn lent_short(
+// Whether a length that is lent is below what row 24 asks.
+pub fn lent_short(
     n: usize,
-    f: usize,
-    b: usize,
+    fs: &[u32],
+    bs: &[u32],
     path: usize,
     fl: usize,
     bl: usize,
     fh: usize,
     bh: usize,
 ) -> bool
-    requires { ⌜ (n ≤ 1024) × (f < 2 ^ 32) × (b < 2 ^ 32) ⌝ }
-    ensures { λ r. ⌜ r ≡ room-short n f b path fl bl fh bh ⌝ }
+    requires { ⌜ (n ≤ 1024) × (n < length (now fs)) × (n < length (now bs)) ⌝ }
+    ensures { λ r. ⌜ r ≡ room-short n (getD (now (fs .entry)) n 0) (getD (now (bs .entry)) n 0) path fl bl fh bh ⌝ }
 {
     if path < n {
         return true;
@@ -70,10 +70,10 @@ fn lent_short(
     if bl < 4 * n {
         return true;
     }
-    if fh < 2 * (f + rules::MAX_ENDS) {
+    if fh < 2 * (fs[n] as usize + rules::MAX_ENDS) {
         return true;
     }
-    bh < 2 * (b + rules::MAX_ENDS)
+    bh < 2 * (bs[n] as usize + rules::MAX_ENDS)
 }
 
 // The number of the first row that is met, or 0. Of scratch only the lengths matter.
@@ -111,16 +111,7 @@ pub fn refusal(
     if bad != 0 {
         return bad;
     }
-    if lent_short(
-        n,
-        fs[n] as usize,
-        bs[n] as usize,
-        path.len(),
-        fl,
-        bl,
-        fh,
-        bh,
-    ) {
+    if lent_short(n, fs, bs, path.len(), fl, bl, fh, bh) {
         return 24;
     }
     0
