@@ -1,0 +1,1 @@
+-- Pair after pair: what the first so many leave.

@@ -1,0 +1,4 @@
+pub mod Rows
+pub mod Pairs
+pub mod Going
+pub mod Outcome

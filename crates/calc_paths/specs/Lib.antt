@@ -1,0 +1,4 @@
+-- Many routes after one check, as definitions; what the parts ask and leave; and what a call may leave.
+pub mod Many
+pub mod Filling
+pub mod Outcome
