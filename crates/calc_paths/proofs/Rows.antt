@@ -1,22 +1,25 @@
 -- Which row the whole call meets first.
 use mathlib.Core.Bool.{Bool, true, false, _||_}
 use mathlib.Core.List.{List, [], _∷_}
-use mathlib.Core.Path.{_≡_, refl, sym, _∙_}
-use Prim.Native.Nat.{ℕ, _*_, _/_, _<_, _≤_}
+use mathlib.Core.Path.{_≡_, refl, sym, ap, _∙_}
+use Prim.Native.Nat.{ℕ, zero, suc, _*_, _/_, _<_, _≤_}
 use native.Mathlib.Nat.{mul-zero, div-lt-iff-lt-mul}
 use native.Mathlib.Omega.{arith}
-use lib.Dec.{eqb, ltb}
+use lib.Dec.{ltb}
 use lib.ListN.{length, getD}
-use borrow.Author.Tests.{lt-ltb, le-ltb, ltb-true, ltb-false, eq-eqb, ne-eqb, eqb-true}
+use borrow.Author.Tests.{lt-ltb, le-ltb, ltb-true, ltb-false, eq-eqb, ne-eqb, eqb-true, not-false}
 use Rattle.rules.specs.Columns.{Hierarchy, begin}
-use Rattle.rules.specs.TableRules.{used, TableRules, table-test}
+use Rattle.rules.specs.TableRules.{used, table-test}
 use Rattle.rules.specs.Refusals.{first-met, short, check-rows, query-scratch, check-refusal}
 use Rattle.rules.proofs.Cases.{on-test, neither}
+use Rattle.rules.proofs.Rows.{not-met}
 use Rattle.rules.proofs.TablesDecided.{tables-decided}
 use Rattle.query.specs.Rows.{room-short}
+use Rattle.halves.specs.Labels.{Before}
 use Rattle.query.proofs.FirstMet.{table-rules}
-use Rattle.calc_paths.specs.Many.{PathsCall, many-rows, paths-refusal, lengths-of}
-use Rattle.calc_paths.specs.Filling.{Checked}
+use Rattle.query.proofs.Found.{rooms}
+use Rattle.calc_paths.specs.Many.{Columns, PathsCall, many-rows, paths-refusal, lengths-of, answers, unless-refused, calc-paths}
+use Rattle.calc_paths.specs.Filling.{paths-call, answered, Earlier, Fillable}
 
 or-none : (b : Bool) → b ≡ (b || false)
 or-none true = refl
@@ -101,3 +104,83 @@ module _ (n : ℕ) (h : Hierarchy) (s t : ℕ) (lent scratch : List ℕ) where
         pub none-met : short (query-scratch n h) scratch ≡ false → 0 ≡ met
         unfolding many-rows check-rows first-met
         none-met e = rw (passes, eq-eqb s t same, fit, e)
+
+-- No row is met, by lengths.
+module _ (n : ℕ) (h : Hierarchy) (s t : ℕ) (lent scratch : List ℕ) (fine : first-met (many-rows n h s t lent scratch) ≡ 0) where
+  passed : (table-test n h ≡ true) × (s ≡ t) × (short (s ∷ s ∷ s ∷ s * n ∷ []) lent ≡ false) × (short (query-scratch n h) scratch ≡ false)
+  unfolding many-rows check-rows
+  passed =
+      let p20 = not-met 19 _ _ fine in
+      let p21 = not-met 20 _ _ (p20 .1) in
+      let p24 = not-met 23 _ _ (p21 .1) in
+      let room = neither (short (s ∷ s ∷ s ∷ s * n ∷ []) lent) _ (p24 .0) in
+      (not-false _ (p20 .0), eqb-true s t (not-false _ (p21 .0)), room .0, room .1)
+
+pub labels-room : (n : ℕ) (h : Hierarchy) (s t : ℕ) (lent : List ℕ) (kf kb jf jb : ℕ) →
+    first-met (many-rows n h s t lent (kf ∷ kb ∷ jf ∷ jb ∷ [])) ≡ 0 → (4 * n ≤ kf) × (4 * n ≤ kb)
+labels-room n h s t lent kf kb jf jb fine =
+    let r = rooms n h kf kb jf jb (passed n h s t lent (kf ∷ kb ∷ jf ∷ jb ∷ []) fine .3) in
+    (r .0, r .1)
+
+-- A call that meets no row.
+module _ (n : ℕ) (h : Hierarchy) (sources targets : List ℕ) (lent : Columns) (scratch : List ℕ) where
+  abbrev c : PathsCall
+  c = paths-call n h sources targets lent scratch
+
+  module _ (fine : paths-refusal c ≡ 0) where
+    rows : (table-test n h ≡ true) × (length sources ≡ length targets) ×
+        (short (length sources ∷ length sources ∷ length sources ∷ length sources * n ∷ []) (lengths-of lent) ≡ false) ×
+        (short (query-scratch n h) scratch ≡ false)
+    unfolding paths-refusal
+    rows = passed n h (length sources) (length targets) (lengths-of lent) scratch fine
+
+    pub fillable : {fl bl : List ℕ} → Earlier n 1 fl bl → Fillable c fl bl
+    unfolding short
+    fillable earlier =
+        let p = length sources in
+        let a = neither (ltb (length (lent .numbers)) p) _ (rows .2) in
+        let b = neither (ltb (length (lent .weights)) p) _ (a .1) in
+        let d = neither (ltb (length (lent .lengths)) p) _ (b .1) in
+        let e = neither (ltb (length (lent .paths)) (p * n)) _ (d .1) in
+        record {
+          checked = record { tables = rows .0; room = rows .3 };
+          even = sym (rows .1);
+          number-room = ltb-false (length (lent .numbers)) p (a .0);
+          weight-room = ltb-false (length (lent .weights)) p (b .0);
+          length-room = ltb-false (length (lent .lengths)) p (d .0);
+          path-room = ltb-false (length (lent .paths)) (p * n) (e .0);
+          earlier = earlier;
+        }
+
+    answered-all : answered 0 (answers c) ≡ calc-paths c
+    unfolding calc-paths unless-refused
+    answered-all = rw fine
+
+  refused-by : (r : ℕ) → (r ≡ 0 → ⊥) → answered r lent ≡ unless-refused c r
+  unfolding unless-refused
+  refused-by zero some = absurd (some refl)
+  refused-by (suc r) some = refl
+
+  pub refused-whole : (r : ℕ) → r ≡ paths-refusal c → (r ≡ 0 → ⊥) → answered r lent ≡ calc-paths c
+  unfolding calc-paths
+  refused-whole r is some = rw (← is) (refused-by r some)
+
+-- Labels that are cleared first are as long as they were, so that the call is the same.
+module _ (n : ℕ) (h : Hierarchy) (sources targets : List ℕ) (lent : Columns) (kf kb jf jb : ℕ) where
+  abbrev of-lengths : PathsCall
+  of-lengths = paths-call n h sources targets lent (kf ∷ kb ∷ jf ∷ jb ∷ [])
+
+  module _ (fine : paths-refusal of-lengths ≡ 0) where
+    module _ (kf′ kb′ : ℕ) (ef : kf′ ≡ kf) (eb : kb′ ≡ kb) where
+      abbrev cleared : PathsCall
+      cleared = paths-call n h sources targets lent (kf′ ∷ kb′ ∷ jf ∷ jb ∷ [])
+
+      is-call : cleared ≡ of-lengths
+      is-call i = paths-call n h sources targets lent (ef i ∷ eb i ∷ jf ∷ jb ∷ [])
+
+      pub cleared-fillable : {fl bl : List ℕ} → Before n 1 fl → Before n 1 bl → Fillable cleared fl bl
+      cleared-fillable f b =
+          fillable n h sources targets lent (kf′ ∷ kb′ ∷ jf ∷ jb ∷ []) (ap paths-refusal is-call ∙ fine) (record { fwd = f; bwd = b })
+
+      pub filled-whole : {after : Columns} → after ≡ answers cleared → answered 0 after ≡ calc-paths of-lengths
+      filled-whole e = ap (answered 0) (e ∙ ap answers is-call) ∙ answered-all n h sources targets lent (kf ∷ kb ∷ jf ∷ jb ∷ []) fine

@@ -1,4 +1,5 @@
 -- From a query that rows 20 to 24 let pass, through its search, to what it hands back.
+use mathlib.Core.Bool.{false}
 use mathlib.Core.List.{List, [], _∷_}
 use mathlib.Core.Logic.{inl, inr}
 use mathlib.Core.Path.{_≡_, refl, ap}
@@ -25,17 +26,13 @@ use Rattle.query.specs.declared.Answer.{Answer}
 use Rattle.query.specs.Answers.{answer, Tells, found, Handing, HandedBack, Routing, Routed}
 use Rattle.query.proofs.Handing.{tells-none, tells-found}
 
--- By the lengths of the scratch that is lent.
-module _ (n : ℕ) (h : Hierarchy) (sources so targets to path : List ℕ) (kf kb jf jb : ℕ) where
-  abbrev of-lengths : QueryCall
-  of-lengths = call n h sources so targets to path (kf ∷ kb ∷ jf ∷ jb ∷ [])
-
-  -- what row 24 asks of scratch
-  pub rooms : Accepted of-lengths →
+-- what row 24 asks of scratch, by its lengths
+module _ (n : ℕ) (h : Hierarchy) (kf kb jf jb : ℕ) where
+  pub rooms : short (query-scratch n h) (kf ∷ kb ∷ jf ∷ jb ∷ []) ≡ false →
       (4 * n ≤ kf) × (4 * n ≤ kb) × (2 * (used n (h .forward) + maxEnds) ≤ jf) × (2 * (used n (h .backward) + maxEnds) ≤ jb)
   unfolding short query-scratch
-  rooms a =
-      let f = neither (ltb kf (4 * n)) _ (a .scratch-room) in
+  rooms fit =
+      let f = neither (ltb kf (4 * n)) _ fit in
       let b = neither (ltb kb (4 * n)) _ (f .1) in
       let p = neither (ltb jf (2 * (used n (h .forward) + maxEnds))) _ (b .1) in
       let q = neither (ltb jb (2 * (used n (h .backward) + maxEnds))) _ (p .1) in (
@@ -45,7 +42,11 @@ module _ (n : ℕ) (h : Hierarchy) (sources so targets to path : List ℕ) (kf k
         ltb-false jb (2 * (used n (h .backward) + maxEnds)) (q .0),
       )
 
-  -- Labels that are cleared first are as long as they were, so that the call is the same.
+-- Labels that are cleared first are as long as they were, so that the call is the same.
+module _ (n : ℕ) (h : Hierarchy) (sources so targets to path : List ℕ) (kf kb jf jb : ℕ) where
+  abbrev of-lengths : QueryCall
+  of-lengths = call n h sources so targets to path (kf ∷ kb ∷ jf ∷ jb ∷ [])
+
   module _ (fine : query-refusal of-lengths ≡ 0) (kf′ kb′ : ℕ) (ef : kf′ ≡ kf) (eb : kb′ ≡ kb) where
     abbrev cleared : QueryCall
     cleared = call n h sources so targets to path (kf′ ∷ kb′ ∷ jf ∷ jb ∷ [])
@@ -70,7 +71,7 @@ module _ (n : ℕ) (h : Hierarchy) (sources so targets to path fl bl fh bh : Lis
     pub searching : Searching n h sources so targets to fl bl fh bh base
     unfolding table
     searching =
-        let room = rooms n h sources so targets to path (length fl) (length bl) (length fh) (length bh) a in
+        let room = rooms n h (length fl) (length bl) (length fh) (length bh) (a .scratch-room) in
         record {
           path = path;
           scratch = c .scratch;

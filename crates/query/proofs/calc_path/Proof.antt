@@ -31,12 +31,12 @@ returns c = tells-refused _ _ (c .before .refusal .ensures) (c .if1 .taken)
 clear-requires : tie.Need-clear-requires
 clear-requires c κs =
     let e = c .before in
-    rooms _ _ _ _ _ _ _ _ _ _ _ (accepted _ (sym (e .before .refusal .ensures) ∙ e .if1 .left)) .0
+    rooms _ _ _ _ _ _ (accepted _ (sym (e .before .refusal .ensures) ∙ e .if1 .left) .scratch-room) .0
 
 clear-requires-2 : tie.Need-clear-requires-2
 clear-requires-2 c κs =
     let e = c .before .before .before .before .before in
-    rooms _ _ _ _ _ _ _ _ _ _ _ (accepted _ (sym (e .before .refusal .ensures) ∙ e .if1 .left)) .1
+    rooms _ _ _ _ _ _ (accepted _ (sym (e .before .refusal .ensures) ∙ e .if1 .left) .scratch-room) .1
 
 route-requires : tie.Need-route-requires
 route-requires c κs =
