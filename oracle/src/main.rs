@@ -62,20 +62,14 @@ mod shortest_path;
 mod valid_flags;
 
 mod answer;
-#[cfg(beside = "searches")]
-mod beside;
 #[cfg(beside = "builds")]
 mod beside_builds;
 #[cfg(beside = "checks")]
 mod beside_checks;
-#[cfg(beside = "graphs")]
-mod beside_graphs;
 #[cfg(beside = "queries")]
 mod beside_queries;
 #[cfg(beside = "records")]
 mod beside_records;
-mod changes;
-mod drawn;
 #[cfg(any(beside = "checks", beside = "queries"))]
 #[allow(dead_code)] // some parts may be left out
 mod hierarchies;
@@ -107,7 +101,6 @@ fn main() {
     let args: Vec<String> = std::env::args().skip(1).collect();
     match args.iter().map(String::as_str).collect::<Vec<_>>()[..] {
         ["answer"] => answer_all(false),
-        ["drawn"] => drawn::lines(),
         ["answer", "--peak"] => answer_all(true),
         ["records"] => answer_records(),
         #[cfg(beside)]
@@ -117,20 +110,13 @@ fn main() {
         },
         ["time", "--write", folder, ref names @ ..] => timing::time(names, Some(Path::new(folder))),
         ["time", ref names @ ..] => timing::time(names, None),
-        _ => fail("usage: oracle answer [--peak] | oracle drawn | oracle records | oracle time [--write FOLDER] [GRAPH ...]"),
+        _ => fail("usage: oracle answer [--peak] | oracle records | oracle time [--write FOLDER] [GRAPH ...]"),
     }
 }
 
 /// The proved code that was linked beside the crate: so many cases of each part, then the meshes against the clock.
 #[cfg(beside)]
 fn beside_all(count: usize, seed: u64) {
-    #[cfg(beside = "graphs")]
-    beside_graphs::compare(count, seed);
-    #[cfg(beside = "searches")]
-    {
-        beside::compare(count, seed);
-        beside::race()
-    }
     #[cfg(beside = "builds")]
     {
         beside_builds::compare(count, seed);
