@@ -9,6 +9,22 @@ pub fn below(numbers: &mut Rng, bound: usize) -> usize {
     numbers.below(bound as u64) as usize
 }
 
+/// A number that a rule may turn on, or any.
+pub fn any_number(numbers: &mut Rng) -> u64 {
+    match below(numbers, 9) {
+        0 => numbers.next(),
+        1 => numbers.next() as u32 as u64,
+        2 => [u32::MAX as u64, u64::MAX, 1 << 40, (1 << 40) + 1, 1 << 63, 1024, 1025][below(numbers, 7)],
+        _ => below(numbers, 6) as u64,
+    }
+}
+
+/// Few such numbers, or none; now and then many.
+pub fn any_column(numbers: &mut Rng) -> Vec<u64> {
+    let most = if below(numbers, 100) == 0 { 3000 } else { 8 };
+    (0..below(numbers, most)).map(|_| any_number(numbers)).collect()
+}
+
 /// Links sorted by tail and head, one for a pair, no loops, often of equal weights.
 pub fn links(numbers: &mut Rng, nodes: usize) -> InputGraph {
     let (share, heaviest) = (1 + below(numbers, 9), [1, 3, 9, 1000, 4_294_967_295][below(numbers, 5)]);

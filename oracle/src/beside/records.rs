@@ -1,17 +1,16 @@
-//! Runs the proved record program beside the one of records.rs, every byte that it writes: on random inputs, with faults among their
-//! records and in their bytes, at the edges of the program's limits, and on bytes of no form.
+//! Record inputs: the length handed back and every byte of the buffer, and eight bytes behind it. Each input is answered with room, in a
+//! buffer whose places behind the lines must stay as they were, and in one that is too short, which must hold the front of the lines.
 
+use super::{agree, refused, Part, Tally};
 use crate::input_graph::Edge;
-use crate::lent::proved;
-use crate::meshes::Rng;
+use crate::lent::answer_records;
+use crate::meshes::{uniform, Rng};
 use crate::random::{below, graph_of, links, shuffled};
 use crate::records::{lines, Record, MOST_BYTES, MOST_LINKS, MOST_NODES, TAG};
-use std::collections::BTreeMap;
-
-proved!("gateway", fn answer_records(input: &[u8], out: &mut [u8],) -> usize);
+use std::fmt::{Debug, Formatter, Result};
 
 /// So many places hold the lines of any input: `output-bound` of crates/routes/specs/Records.antt.
-const ENOUGH: usize = 17 * (MOST_BYTES + 1);
+pub const ENOUGH: usize = 17 * (MOST_BYTES + 1);
 
 /// What the buffer holds before: no line has this byte.
 const FILLED: u8 = 0xA5;
@@ -38,25 +37,32 @@ fn joined(records: &[Record]) -> Vec<u8> {
     records.iter().flat_map(|record| record.bytes()).collect()
 }
 
-/// How many inputs were answered with what.
-#[derive(Default)]
-struct Tally {
-    inputs: usize,
-    calls: usize,
-    short: usize,
-    built: usize,
-    routes: usize,
-    none: usize,
-    refused: BTreeMap<u32, usize>,
-    bad_records: usize,
-    too_long: usize,
+/// An input, as it is shown.
+struct Input<'a>(&'a [u8]);
+
+impl Debug for Input<'_> {
+    fn fmt(&self, out: &mut Formatter) -> Result {
+        self.0.iter().try_for_each(|byte| write!(out, "{byte:02x}"))
+    }
 }
 
-impl Tally {
-    /// Compares the lines, in each of the buffers; stops at the first that differs.
-    fn add(&mut self, input: &[u8], buffers: &[Buffer]) {
+/// The length handed back, every byte of the buffer, and those behind it.
+#[derive(PartialEq)]
+struct Written(usize, Vec<u8>);
+
+impl Debug for Written {
+    fn fmt(&self, out: &mut Formatter) -> Result {
+        write!(out, "length {}, {}", self.0, self.1.escape_ascii())
+    }
+}
+
+/// Inputs, each in several buffers.
+#[derive(Default)]
+pub struct Records(Tally);
+
+impl Records {
+    fn add(&mut self, over: &'static str, input: &[u8], buffers: &[Buffer]) {
         let lines = lines(input);
-        self.inputs += 1;
         for buffer in buffers {
             let places = buffer.places(lines.len());
             let mut ours = vec![FILLED; places + BEHIND];
@@ -64,35 +70,67 @@ impl Tally {
             let front = lines.len().min(places);
             let mut theirs = vec![FILLED; places + BEHIND];
             theirs[..front].copy_from_slice(&lines.as_bytes()[..front]);
-            if (&ours, length) != (&theirs, lines.len()) {
-                let hex: String = input.iter().map(|byte| format!("{byte:02x}")).collect();
-                let same = ours.iter().zip(&theirs).take_while(|(ours, theirs)| ours == theirs).count();
-                let rest = |bytes: &[u8]| bytes[same..].iter().take(200).copied().collect::<Vec<u8>>().escape_ascii().to_string();
-                println!("input {hex}\n{places} places, the first {same} hold the same; then");
-                println!("ours {}, length {length}\nthe crate's {}, length {}", rest(&ours), rest(&theirs), lines.len());
-                std::process::exit(1)
-            }
-            self.calls += 1;
-            self.short += (places < lines.len()) as usize;
+            agree(&(Input(input), places), Written(length, ours), Written(lines.len(), theirs));
+            self.0.add(over, if places < lines.len() { "calls with too short a buffer" } else { "calls with room" });
         }
         for line in lines.lines() {
-            match line.split_once(' ').map_or(line, |(word, _)| word) {
-                "built" => self.built += 1,
-                "route" => self.routes += 1,
-                "none" => self.none += 1,
-                "bad" => self.bad_records += 1,
-                "too" => self.too_long += 1,
-                _ => *self.refused.entry(line["refused ".len()..].parse().unwrap()).or_default() += 1,
+            self.0.note(over, outcome(line));
+        }
+    }
+
+    /// Case L cut at every byte, without each byte, and with every byte changed to every other and put before every one; and its records, each
+    /// left out, twice, and moved to every place.
+    fn around_case_l(&mut self) {
+        let mut try_input = |input: &[u8]| self.add("one change away from case L", input, &[Buffer::More(1), Buffer::Less(1)]);
+        let whole = joined(&CASE_L);
+        for at in 0..=whole.len() {
+            try_input(&whole[..at]);
+            let (before, after) = whole.split_at(at);
+            for byte in 0..=255 {
+                try_input(&[before, &[byte], after].concat());
+                if let Some((_, after)) = after.split_first() {
+                    try_input(&[before, &[byte], after].concat());
+                }
+            }
+            if let Some((_, after)) = after.split_first() {
+                try_input(&[before, after].concat());
+            }
+        }
+        for at in 0..CASE_L.len() {
+            let mut without = CASE_L.to_vec();
+            let record = without.remove(at);
+            try_input(&joined(&without));
+            for place in 0..CASE_L.len() {
+                let mut moved = without.clone();
+                moved.insert(place, record);
+                try_input(&joined(&moved));
+                let mut twice = CASE_L.to_vec();
+                twice.insert(place, record);
+                try_input(&joined(&twice));
             }
         }
     }
 
-    fn say(&self, what: &str) {
-        let Tally { inputs, calls, short, built, routes, none, refused, bad_records, too_long } = self;
-        println!(
-            "{inputs} {what}: {built} built, {routes} routes, {none} times none, refused by number {refused:?}, {bad_records} bad records, \
-             {too_long} too long; {calls} calls, {short} of them with too short a buffer: every byte agrees"
-        );
+    /// The longest input, then with zeros behind it up to 16,384 bytes, one more, and many more.
+    fn about_the_longest(&mut self) {
+        let mut input = longest();
+        for length in [input.len(), MOST_BYTES - 1, MOST_BYTES, MOST_BYTES + 1, MOST_BYTES + 7, 10 * MOST_BYTES] {
+            input.resize(length, 0);
+            let buffers = [Buffer::Enough, Buffer::More(0), Buffer::Less(1), Buffer::Less(ENOUGH / 2)];
+            self.add("of the greatest length", &input, &buffers);
+        }
+    }
+}
+
+/// What a line says.
+fn outcome(line: &str) -> &'static str {
+    match line.split_once(' ').map_or(line, |(word, _)| word) {
+        "built" => "built",
+        "route" => "routes",
+        "none" => "none",
+        "bad" => "bad record",
+        "too" => "too long",
+        _ => refused(line["refused ".len()..].parse().unwrap()),
     }
 }
 
@@ -138,41 +176,6 @@ const CASE_L: [Record; 11] = [
     Record::Query(0, 7),
 ];
 
-/// Case L cut at every byte, without each byte, and with every byte changed to every other and put before every one; and its records, each
-/// left out, twice, and moved to every place.
-fn around_case_l() {
-    let mut tally = Tally::default();
-    let mut try_input = |input: &[u8]| tally.add(input, &[Buffer::More(1), Buffer::Less(1)]);
-    let whole = joined(&CASE_L);
-    for at in 0..=whole.len() {
-        try_input(&whole[..at]);
-        let (before, after) = whole.split_at(at);
-        for byte in 0..=255 {
-            try_input(&[before, &[byte], after].concat());
-            if let Some((_, after)) = after.split_first() {
-                try_input(&[before, &[byte], after].concat());
-            }
-        }
-        if let Some((_, after)) = after.split_first() {
-            try_input(&[before, after].concat());
-        }
-    }
-    for at in 0..CASE_L.len() {
-        let mut without = CASE_L.to_vec();
-        let record = without.remove(at);
-        try_input(&joined(&without));
-        for place in 0..CASE_L.len() {
-            let mut moved = without.clone();
-            moved.insert(place, record);
-            try_input(&joined(&moved));
-            let mut twice = CASE_L.to_vec();
-            twice.insert(place, record);
-            try_input(&joined(&twice));
-        }
-    }
-    tally.say("inputs one change away from case L");
-}
-
 /// Up to the limit, from columns as a build has them.
 fn network(nodes: usize, edges: &[Edge], order: &[usize], limit: u32) -> Vec<Record> {
     let mut records = vec![Record::Nodes(nodes as u16)];
@@ -182,22 +185,28 @@ fn network(nodes: usize, edges: &[Edge], order: &[usize], limit: u32) -> Vec<Rec
     records
 }
 
-/// Queries from front to back of the longest line, of the heaviest links, as many as fit and one more; and 16,384 bytes and one more.
-fn longest() {
-    let mut tally = Tally::default();
+/// The longest line, of the heaviest links, and as many queries from front to back of it as fit.
+pub fn longest() -> Vec<u8> {
     let last = MOST_NODES - 1;
     let edges: Vec<Edge> = (0..last).map(|from| Edge { from, to: from + 1, weight: u32::MAX as u64 }).collect();
     let order: Vec<usize> = (1..last).chain([0, last]).collect();
-    let query = Record::Query(0, last as u16).bytes();
-    let mut input = joined(&network(MOST_NODES, &edges, &order, 100));
-    while input.len() <= MOST_BYTES {
+    with_queries(network(MOST_NODES, &edges, &order, 100))
+}
+
+/// As many links as there may be, no searches, and as many queries as fit.
+pub fn densest() -> Vec<u8> {
+    let graph = uniform(MOST_NODES, MOST_LINKS);
+    let order: Vec<usize> = (0..MOST_NODES).collect();
+    with_queries(network(MOST_NODES, graph.get_edges(), &order, 0))
+}
+
+fn with_queries(records: Vec<Record>) -> Vec<u8> {
+    let mut input = joined(&records);
+    let query = Record::Query(0, MOST_NODES as u16 - 1).bytes();
+    while input.len() + query.len() <= MOST_BYTES {
         input.extend(&query);
     }
-    for length in [input.len() - query.len(), MOST_BYTES - 1, MOST_BYTES, MOST_BYTES + 1, input.len(), 10 * MOST_BYTES] {
-        input.resize(length, 0);
-        tally.add(&input, &[Buffer::Enough, Buffer::More(0), Buffer::Less(1), Buffer::Less(ENOUGH / 2)]);
-    }
-    tally.say("inputs of the greatest length");
+    input
 }
 
 /// A network and queries for it. Some have 32 or 33 nodes, or about 256 links.
@@ -312,15 +321,16 @@ fn rubbish(numbers: &mut Rng) -> Vec<u8> {
     (0..length).map(|_| if any { below(numbers, 256) as u8 } else { some_byte(numbers) }).collect()
 }
 
-/// So many inputs.
-fn random(count: usize, seed: u64) {
-    const KINDS: [&str; 5] =
-        ["without a fault", "with faults among their records", "with faults in their bytes", "of about 16,384 bytes", "of bytes of no form"];
-    let mut numbers = Rng(seed);
-    let mut tallies: [Tally; 5] = Default::default();
-    for case in 0..count {
-        let numbers = &mut numbers;
-        let kind = if case % 500 == 499 { 3 } else { [0, 0, 1, 1, 1, 2, 2, 4][below(numbers, 8)] };
+impl Part for Records {
+    fn exhaust(&mut self) {
+        self.around_case_l();
+        self.about_the_longest();
+    }
+
+    fn round(&mut self, numbers: &mut Rng, round: usize) {
+        const KINDS: [&str; 5] =
+            ["without a fault", "with faults among their records", "with faults in their bytes", "of about 16,384 bytes", "of bytes of no form"];
+        let kind = if round % 500 == 499 { 3 } else { [0, 0, 1, 1, 1, 2, 2, 4][below(numbers, 8)] };
         let mut records = random_records(numbers);
         if kind == 1 || (kind != 0 && below(numbers, 4) == 0) {
             for _ in 0..1 + below(numbers, 2) {
@@ -333,15 +343,10 @@ fn random(count: usize, seed: u64) {
             3 => lengthen(numbers, &mut input),
             _ => {}
         }
-        tallies[kind].add(&input, &Buffer::some(numbers));
+        self.add(KINDS[kind], &input, &Buffer::some(numbers));
     }
-    for (tally, kind) in tallies.iter().zip(KINDS) {
-        tally.say(&format!("random inputs {kind}"));
-    }
-}
 
-pub fn compare(count: usize, seed: u64) {
-    around_case_l();
-    longest();
-    random(count, seed);
+    fn tally(&self) -> &Tally {
+        &self.0
+    }
 }
