@@ -39,16 +39,18 @@ pub fn links(numbers: &mut Rng, nodes: usize) -> InputGraph {
     InputGraph::new(nodes, edges)
 }
 
-/// Up to 12 nodes, now and then up to 40 or up to 1,024.
-pub fn random_size(numbers: &mut Rng, case: usize) -> usize {
-    if case % 20_000 == 19_999 {
-        return 1024 - below(numbers, 200);
+/// Up to 12 nodes, now and then up to 40, up to 200 or up to 1,024.
+pub fn random_size(numbers: &mut Rng, round: usize) -> usize {
+    match round {
+        _ if round % 5000 == 4999 => 1024 - below(numbers, 200),
+        _ if round % 1000 == 500 => below(numbers, 201),
+        _ if round % 100 == 0 => below(numbers, 41),
+        _ => below(numbers, 13),
     }
-    below(numbers, if case % 100 == 0 { 41 } else { 13 })
 }
 
-pub fn random_graph(numbers: &mut Rng, case: usize) -> InputGraph {
-    let nodes = random_size(numbers, case);
+pub fn random_graph(numbers: &mut Rng, round: usize) -> InputGraph {
+    let nodes = random_size(numbers, round);
     graph_of(numbers, nodes)
 }
 

@@ -22,7 +22,7 @@ pub struct Subject {
 
 impl Subject {
     pub fn new(tables: Tables, built_of: Option<&InputGraph>) -> Subject {
-        let least = built_of.filter(|graph| graph.get_num_nodes() <= 40).map(|graph| {
+        let least = built_of.filter(|graph| graph.get_num_nodes() <= 200).map(|graph| {
             let mut all = FloydWarshall::new(graph.get_num_nodes());
             all.prepare(graph);
             all
