@@ -111,6 +111,25 @@ pub fn tower(order: &[NodeId]) -> FastGraph {
     })
 }
 
+/// Every two nodes have an entry, above the lowest rank a shortcut over any lower node.
+pub fn complete(numbers: &mut Rng, order: &[NodeId]) -> FastGraph {
+    laid_out(order, |graph, rank, forward| {
+        let entry = |adj_rank: usize| {
+            let (base, adj) = (order[rank], order[adj_rank]);
+            if rank == 0 {
+                return plain(base, adj, 1);
+            }
+            let centre = below(numbers, rank);
+            // The entries of a rank are in the order of their neighbours' ranks.
+            let [near, far] = [rank, adj_rank].map(|neighbour| neighbour - centre - 1);
+            let (tail, head) = if forward { (near, far) } else { (far, near) };
+            let (i, o) = (graph.first_edge_ids_bwd[centre] + tail, graph.first_edge_ids_fwd[centre] + head);
+            FastGraphEdge::new(base, adj, graph.edges_bwd[i].weight + graph.edges_fwd[o].weight, i, o)
+        };
+        (rank + 1..order.len()).map(entry).collect()
+    })
+}
+
 /// Several entries between the same two nodes, weights of no shortest way, shortcuts over any entries that fit.
 fn jumble(numbers: &mut Rng, order: &[NodeId]) -> FastGraph {
     let heaviest = [1, 3, 9, MAX_SUM as usize][below(numbers, 4)];

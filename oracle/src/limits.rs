@@ -4,29 +4,47 @@ use crate::answer::crates_build;
 use crate::beside::{densest_records, longest_records, Build, Ours, Subject, ENOUGH};
 use crate::constants::{NodeId, MAX_ENDS, MAX_LINKS, MAX_NODES};
 use crate::guard::bytes_since;
-use crate::hierarchies::{tables_of, tower};
+use crate::hierarchies::{complete, tables_of, tower};
 use crate::input_graph::{Edge, InputGraph};
 use crate::lent::{answer_records, FILLED};
-use crate::meshes::uniform;
+use crate::meshes::{uniform, Rng};
+use crate::random::shuffled;
 use crate::timing::timed;
 
 pub fn measure() {
-    println!("{:<68} {:>6} {:>8} {:>8} {:>10}", "call", "number", "gives", "KiB", "ms");
-    builds();
-    let complete = Subject::new(tables_of(&crates_build(&star(), &hub_first(), 1), 0), None);
-    row("check of tables in which every two nodes have an entry", || (complete.ours.check(), 0));
-    queries(&complete);
+    println!("{:<80} {:>6} {:>8} {:>8} {:>10}", "call", "number", "gives", "KiB", "ms");
+    let built = crates_build(&star(), &hub_first(), 1);
+    let mut numbers = Rng(1);
+    let order = shuffled(&mut numbers, MAX_NODES);
+    let made_up = complete(&mut numbers, &order);
+    for (what, graph) in [("built", built), ("made-up", made_up)] {
+        let subject = Subject::new(tables_of(&graph, 0), None);
+        row(&format!("check of {what} tables with an entry for every two nodes"), || (subject.ours.check(), 0));
+        queries(what, &subject);
+    }
     unpacking();
     for (what, input) in [("records: a line of 32 nodes, queries from end to end", longest_records()), ("records: 256 links between 32 nodes", densest_records())] {
-        row(&format!("{what}, {} bytes", input.len()), || (0, answer_records(&input, &mut vec![0; ENOUGH])));
+        let mut out = vec![0; ENOUGH];
+        row(&format!("{what}, {} bytes", input.len()), || (0, answer_records(&input, &mut out)));
     }
+    builds(); // the slowest last
 }
 
-/// One call, which gives a number and how much it wrote: what it was handed and lent, and how long it took.
-fn row(what: &str, call: impl FnOnce() -> (u32, usize)) {
+/// One call, which gives a number and how much it wrote: what it was handed and lent, and how long it took; the best of nine where that
+/// takes no more than a second.
+fn row(what: &str, mut call: impl FnMut() -> (u32, usize)) {
     bytes_since();
-    let ((number, gives), seconds) = timed(call);
-    println!("{what:<68} {number:>6} {gives:>8} {:>8} {:>10.2}", bytes_since().div_ceil(1024), 1e3 * seconds);
+    let ((number, gives), mut best) = timed(&mut call);
+    let bytes = bytes_since();
+    let mut total = best;
+    for _ in 1..9 {
+        if total < 1.0 {
+            let (_, seconds) = timed(&mut call);
+            best = best.min(seconds);
+            total += seconds;
+        }
+    }
+    println!("{what:<80} {number:>6} {gives:>8} {:>8} {:>10.2}", bytes.div_ceil(1024), 1e3 * best);
 }
 
 /// Links from the hub, node 0, to all others and back. Without it every two of the others need a shortcut.
@@ -48,9 +66,9 @@ fn builds() {
         row(&format!("build of {what}, limit {limit}"), || (lent.build(&call), lent.entries(MAX_NODES).iter().sum()));
     };
     let dense = uniform(MAX_NODES, MAX_LINKS);
-    for limit in [0, 1, 100, u32::MAX] {
-        build("a star, its hub first", &star(), limit);
+    for limit in [1, 100, u32::MAX, 0] {
         build("16,384 links between any two of 1,024 nodes, in order", &dense, limit);
+        build("a star, its hub first", &star(), limit);
     }
 }
 
@@ -65,10 +83,10 @@ fn query(what: &str, subject: &Subject, sources: &[u32], targets: &[u32], places
     });
 }
 
-fn queries(complete: &Subject) {
-    query("query over these tables", complete, &[1], &[2], MAX_NODES);
+fn queries(what: &str, subject: &Subject) {
+    query(&format!("query over these {what} tables"), subject, &[1], &[2], MAX_NODES);
     let ends = |from: u32| std::array::from_fn::<u32, MAX_ENDS, _>(|k| from + k as u32);
-    query("query over these tables, 16 sources and 16 targets", complete, &ends(1), &ends(101), MAX_NODES);
+    query("the same with 16 sources and 16 targets", subject, &ends(1), &ends(101), MAX_NODES);
 }
 
 fn unpacking() {
