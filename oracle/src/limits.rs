@@ -64,10 +64,17 @@ fn builds() {
         let call = Build::new(graph, &hub_first(), limit);
         let mut lent = Ours::lent(&call);
         row(&format!("build of {what}, limit {limit}"), || (lent.build(&call), lent.entries(MAX_NODES).iter().sum()));
+        row("the crate's build of the same", || {
+            let built = crates_build(graph, &hub_first(), limit as usize);
+            (0, built.edges_fwd.len() + built.edges_bwd.len())
+        });
     };
     let dense = uniform(MAX_NODES, MAX_LINKS);
-    for limit in [1, 100, u32::MAX, 0] {
+    for limit in [1, 100, u32::MAX] {
         build("16,384 links between any two of 1,024 nodes, in order", &dense, limit);
+    }
+    // With limit 0 no arc is a witness: for each pair of ends the arc between them is looked for along a list.
+    for limit in [u32::MAX, 1, 0] {
         build("a star, its hub first", &star(), limit);
     }
 }
