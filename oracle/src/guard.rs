@@ -33,6 +33,36 @@ fn done(is: bool) {
     }
 }
 
+/// Pages of zeros.
+pub struct Zeros {
+    first: *mut u8,
+    bytes: usize,
+}
+
+pub fn pages_of_zeros(bytes: usize) -> Zeros {
+    let first: *mut u8 = unsafe { mmap(null_mut(), bytes, READ_WRITE, PRIVATE_ANONYMOUS, -1, 0) }.cast();
+    done(first as isize != -1);
+    Zeros { first, bytes }
+}
+
+impl Zeros {
+    pub fn first(&self) -> *mut u8 {
+        self.first
+    }
+
+    /// How many bytes there are from the first that is no longer zero to the end.
+    pub fn touched(&self) -> usize {
+        let bytes = unsafe { std::slice::from_raw_parts(self.first, self.bytes) };
+        self.bytes - bytes.iter().position(|&byte| byte != 0).unwrap_or(self.bytes)
+    }
+}
+
+impl Drop for Zeros {
+    fn drop(&mut self) {
+        done(unsafe { munmap(self.first.cast(), self.bytes) } == 0);
+    }
+}
+
 /// The next of a fixed sequence of choices.
 fn choice(bound: u64) -> u64 {
     static TURN: AtomicU64 = AtomicU64::new(0);

@@ -9,10 +9,11 @@ use crate::input_graph::{Edge, InputGraph};
 use crate::lent::{answer_records, FILLED};
 use crate::meshes::{uniform, Rng};
 use crate::random::shuffled;
+use crate::stack::with_stack;
 use crate::timing::timed;
 
 pub fn measure() {
-    println!("{:<80} {:>6} {:>8} {:>8} {:>10}", "call", "number", "gives", "KiB", "ms");
+    println!("{:<80} {:>6} {:>8} {:>8} {:>6} {:>10}", "call", "number", "gives", "KiB", "stack", "ms");
     let built = crates_build(&star(), &hub_first(), 1);
     let mut numbers = Rng(1);
     let order = shuffled(&mut numbers, MAX_NODES);
@@ -23,18 +24,20 @@ pub fn measure() {
         queries(what, &subject);
     }
     unpacking();
-    for (what, input) in [("records: a line of 32 nodes, queries from end to end", longest_records()), ("records: 256 links between 32 nodes", densest_records())] {
+    let records = |what: &str, input: Vec<u8>| {
         let mut out = vec![0; ENOUGH];
-        row(&format!("{what}, {} bytes", input.len()), || (0, answer_records(&input, &mut out)));
-    }
+        row(&format!("records: {what}, {} bytes", input.len()), || (0, answer_records(&input, &mut out)));
+    };
+    records("a line of 32 nodes, queries from end to end", longest_records());
+    records("256 links between 32 nodes", densest_records());
     builds(); // the slowest last
 }
 
-/// One call, which gives a number and how much it wrote: what it was handed and lent, and how long it took; the best of nine where that
-/// takes no more than a second.
+/// One call, which gives a number and how much it wrote: what it was handed and lent, the stack that it used, and how long it took, the
+/// best of nine where that takes no more than a second.
 fn row(what: &str, mut call: impl FnMut() -> (u32, usize)) {
     bytes_since();
-    let ((number, gives), mut best) = timed(&mut call);
+    let (((number, gives), mut best), stack) = with_stack(&mut || timed(&mut call));
     let bytes = bytes_since();
     let mut total = best;
     for _ in 1..9 {
@@ -44,7 +47,7 @@ fn row(what: &str, mut call: impl FnMut() -> (u32, usize)) {
             total += seconds;
         }
     }
-    println!("{what:<80} {number:>6} {gives:>8} {:>8} {:>10.2}", bytes.div_ceil(1024), 1e3 * best);
+    println!("{what:<80} {number:>6} {gives:>8} {:>8} {:>6} {:>10.2}", bytes.div_ceil(1024), stack.div_ceil(1024), 1e3 * best);
 }
 
 /// Links from the hub, node 0, to all others and back. Without it every two of the others need a shortcut.

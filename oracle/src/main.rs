@@ -89,6 +89,8 @@ mod meshes;
 #[cfg(beside)]
 mod random;
 #[cfg(beside)]
+mod stack;
+#[cfg(beside)]
 mod timing;
 #[cfg(beside)]
 mod tiny;
