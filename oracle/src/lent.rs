@@ -70,6 +70,16 @@ proved!("query", "fill_path", fn calc_path(
     fwd_labels: &mut [u64], bwd_labels: &mut [u64], fwd_heap: &mut [u64], bwd_heap: &mut [u64],
 ) -> usize);
 
+#[rustfmt::skip]
+proved!("ratmanoep", "ratmanoep_calc_paths", fn calc_paths(
+    n: usize, ranks: &[u32],
+    fwd_starts: &[u32], fwd_bases: &[u32], fwd_neighbours: &[u32], fwd_weights: &[u64], fwd_ins: &[u32], fwd_outs: &[u32],
+    bwd_starts: &[u32], bwd_bases: &[u32], bwd_neighbours: &[u32], bwd_weights: &[u64], bwd_ins: &[u32], bwd_outs: &[u32],
+    sources: &[u32], targets: &[u32],
+    numbers: &mut [u32], weights: &mut [u64], lengths: &mut [u32], paths: &mut [u32],
+    fwd_labels: &mut [u64], bwd_labels: &mut [u64], fwd_heap: &mut [u64], bwd_heap: &mut [u64],
+) -> u32);
+
 proved!("gateway", "answer_records", fn answer_records(input: &[u8], out: &mut [u8],) -> usize);
 
 /// Links.
@@ -198,6 +208,36 @@ impl Hierarchy {
             fwd_labels, bwd_labels, fwd_heap, bwd_heap,
         );
         (number, weight, length)
+    }
+
+    /// The number of a call for many routes.
+    #[rustfmt::skip]
+    pub fn routes(&self, sources: &[u32], targets: &[u32], routes: &mut Routes, scratch: &mut QueryScratch) -> u32 {
+        let Hierarchy { nodes, ranks, fwd, bwd } = self;
+        let [fwd_labels, bwd_labels, fwd_heap, bwd_heap] = scratch;
+        calc_paths(
+            *nodes, ranks,
+            &fwd.starts, &fwd.bases, &fwd.neighbours, &fwd.weights, &fwd.ins, &fwd.outs,
+            &bwd.starts, &bwd.bases, &bwd.neighbours, &bwd.weights, &bwd.ins, &bwd.outs,
+            sources, targets,
+            &mut routes.numbers, &mut routes.weights, &mut routes.lengths, &mut routes.paths,
+            fwd_labels, bwd_labels, fwd_heap, bwd_heap,
+        )
+    }
+}
+
+/// What many routes are written to: the walk of a pair lies in its own n places of the paths.
+pub struct Routes {
+    pub numbers: Vec<u32>,
+    pub weights: Vec<u64>,
+    pub lengths: Vec<u32>,
+    pub paths: Vec<u32>,
+}
+
+impl Routes {
+    pub fn filled([numbers, weights, lengths, paths]: [usize; 4]) -> Routes {
+        let ids = |length| vec![FILLED; length];
+        Routes { numbers: ids(numbers), weights: vec![FILLED as u64; weights], lengths: ids(lengths), paths: ids(paths) }
     }
 }
 

@@ -6,7 +6,7 @@ use crate::constants::{NodeId, MAX_ENDS, MAX_LINKS, MAX_NODES};
 use crate::guard::bytes_since;
 use crate::hierarchies::{complete, tables_of, tower};
 use crate::input_graph::{Edge, InputGraph};
-use crate::lent::{answer_records, FILLED};
+use crate::lent::{answer_records, Routes, FILLED};
 use crate::meshes::{uniform, Rng};
 use crate::random::shuffled;
 use crate::stack::with_stack;
@@ -97,6 +97,14 @@ fn queries(what: &str, subject: &Subject) {
     query(&format!("query over these {what} tables"), subject, &[1], &[2], MAX_NODES);
     let ends = |from: u32| std::array::from_fn::<u32, MAX_ENDS, _>(|k| from + k as u32);
     query("the same with 16 sources and 16 targets", subject, &ends(1), &ends(101), MAX_NODES);
+    const PAIRS: usize = 1000;
+    let [sources, targets] = [0, 7].map(|from| (from..from + PAIRS as u32).collect::<Vec<u32>>());
+    let mut routes = Routes::filled([PAIRS, PAIRS, PAIRS, PAIRS * MAX_NODES]);
+    let mut scratch = subject.scratch().map(|length| vec![9; length]);
+    row(&format!("{PAIRS} routes in one call over them"), || {
+        let number = subject.ours.routes(&sources, &targets, &mut routes, &mut scratch);
+        (number, routes.lengths.iter().map(|&length| length as usize).sum())
+    });
 }
 
 fn unpacking() {

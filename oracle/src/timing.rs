@@ -8,7 +8,7 @@ use crate::fast_graph::FastGraph;
 use crate::fast_graph_builder::{FastGraphBuilder, Params};
 use crate::hierarchies::tables_of;
 use crate::input_graph::InputGraph;
-use crate::lent::FILLED;
+use crate::lent::{Routes, FILLED};
 use crate::meshes::{mesh, Rng, NAMES};
 use crate::path_calculator::PathCalculator;
 use crate::random::below;
@@ -48,7 +48,7 @@ pub fn time(names: &[&str]) {
     println!("graph     nodes  links  entries   ours ms  crate ms  ours/crate");
     meshes.iter().for_each(time_builds);
     println!("\nqueries, us each; over the crate's");
-    println!("graph      crate   whole   check   empty    whole  check  whole - check  whole - empty");
+    println!("graph      crate   whole    many   check   empty    whole   many  check  whole - check  whole - empty");
     meshes.iter().for_each(time_queries);
 }
 
@@ -97,9 +97,9 @@ fn time_builds(mesh: &Mesh) {
     println!(" {:>9.2} {:>9.2} {:>11.2}", 1e3 * ours, 1e3 * theirs, ours / theirs);
 }
 
-/// Queries of one source and one target by both, the crate's calculator made once and our scratch left as each call leaves it. Beside
-/// them the table check, which each of our calls makes, and calls with ends that do not count: they check the tables, clear the labels
-/// and have nothing to find.
+/// Queries of one source and one target by both, the crate's calculator made once and our scratch left as each call leaves it; and all of
+/// a run in one call of ours. Beside them the table check, which each of our calls makes, and calls with ends that do not count: they check
+/// the tables, clear the labels and have nothing to find.
 fn time_queries(mesh: &Mesh) {
     let built = &mesh.built;
     let subject = Subject::new(tables_of(built, 0), None);
@@ -115,6 +115,14 @@ fn time_queries(mesh: &Mesh) {
     };
     let (mut ask, mut ask_nothing) = (asking(0), asking(WEIGHT_MAX));
     const NONE: (u32, u64, usize) = (0, WEIGHT_MAX, 0);
+    let mut lent = Routes::filled([AT_A_TIME, AT_A_TIME, AT_A_TIME, AT_A_TIME * nodes]);
+    let mut scratch = subject.scratch().map(|length| vec![9; length]);
+    let mut ask_all = |pairs: &[[NodeId; 2]], answers: &[(u32, u64, usize)]| {
+        let [sources, targets] = [0, 1].map(|side| pairs.iter().map(|pair| pair[side] as u32).collect::<Vec<u32>>());
+        subject.ours.routes(&sources, &targets, &mut lent, &mut scratch);
+        let answer = |k: usize| (lent.numbers[k], lent.weights[k], lent.lengths[k] as usize);
+        (0..pairs.len()).filter(|&k| answer(k) == answers[k]).count()
+    };
     let mut calculator = PathCalculator::new(nodes);
     let mut crates = |&[source, target]: &[NodeId; 2]| {
         calculator.calc_path(built, source, target).map_or(NONE, |path| (0, path.weight, path.nodes.len()))
@@ -122,19 +130,20 @@ fn time_queries(mesh: &Mesh) {
     let mut numbers = Rng(1);
     let pairs: Vec<[NodeId; 2]> = (0..QUERIES).map(|_| [(); 2].map(|_| below(&mut numbers, nodes))).collect();
     let answers: Vec<_> = pairs.iter().map(&mut crates).collect();
-    let mut seconds = [0.0; 4];
+    let mut seconds = [0.0; 5];
     // Each gives how many came out as they must.
     for (pairs, answers) in pairs.chunks(AT_A_TIME).zip(answers.chunks(AT_A_TIME)) {
         let best = best_of([
             &mut || pairs.iter().zip(answers).filter(|(pair, answer)| crates(pair) == **answer).count(),
             &mut || pairs.iter().zip(answers).filter(|(pair, answer)| ask(pair) == **answer).count(),
+            &mut || ask_all(pairs, answers),
             &mut || pairs.iter().filter(|_| subject.ours.check() == 0).count(),
             &mut || pairs.iter().filter(|pair| ask_nothing(pair) == NONE).count(),
         ]);
         seconds.iter_mut().zip(best).for_each(|(sum, best)| *sum += best);
     }
-    let [theirs, whole, check, empty] = seconds.map(|seconds| 1e6 * seconds / QUERIES as f64);
-    let [a, b, c, d] = [whole, check, whole - check, whole - empty].map(|time| time / theirs);
-    print!("{:<10} {theirs:>5.2} {whole:>7.2} {check:>7.2} {empty:>7.2} ", mesh.name);
-    println!("{a:>8.2} {b:>6.2} {c:>14.2} {d:>14.2}");
+    let [theirs, whole, many, check, empty] = seconds.map(|seconds| 1e6 * seconds / QUERIES as f64);
+    let [a, b, c, d, e] = [whole, many, check, whole - check, whole - empty].map(|time| time / theirs);
+    print!("{:<10} {theirs:>5.2} {whole:>7.2} {many:>7.2} {check:>7.2} {empty:>7.2} ", mesh.name);
+    println!("{a:>8.2} {b:>6.2} {c:>6.2} {d:>14.2} {e:>14.2}");
 }

@@ -5,6 +5,7 @@ mod builds;
 mod checks;
 mod queries;
 mod records;
+mod routes;
 
 pub use builds::{Call as Build, Ours};
 pub use queries::Subject;
@@ -77,13 +78,14 @@ fn agree<A: PartialEq + Debug>(case: &dyn Debug, ours: A, theirs: A) -> A {
     ours
 }
 
-const PARTS: [&str; 4] = ["builds", "checks", "queries", "records"];
+const PARTS: [&str; 5] = ["builds", "checks", "queries", "routes", "records"];
 
 fn part(name: &str) -> Box<dyn Part> {
     match name {
         "builds" => Box::<builds::Builds>::default(),
         "checks" => Box::<checks::Checks>::default(),
         "queries" => Box::<queries::Queries>::default(),
+        "routes" => Box::<routes::Routes>::default(),
         "records" => Box::<records::Records>::default(),
         _ => fail(&format!("there is no part {name}; there are {}", PARTS.join(", "))),
     }
