@@ -6,11 +6,11 @@ use crate::guard::{Borrowed, Handed};
 use crate::input_graph::{Edge, InputGraph};
 use crate::tables::Tables;
 
-/// Declares a function of a proved library by its symbol, behind a safe one of the same parameters. To C a slice is an address and a
+/// Declares a function of the proved library by its symbol, behind a safe one of the same parameters. To C a slice is an address and a
 /// length, and a lent number is an address.
 macro_rules! proved {
-    ($library:literal, $symbol:literal, fn $name:ident($($parameters:tt)*) -> $result:ty) => {
-        proved!(@ [$library, $symbol, fn $name($($parameters)*) -> $result] [] [] [] $($parameters)*);
+    ($symbol:literal, fn $name:ident($($parameters:tt)*) -> $result:ty) => {
+        proved!(@ [$symbol, fn $name($($parameters)*) -> $result] [] [] [] $($parameters)*);
     };
     // The parameters from the left: as C has them, what is made of them, and as they are passed.
     (@ $function:tt [$($c:tt)*] [$($made:tt)*] [$($passed:tt)*] $slice:ident: &[$number:ty], $($rest:tt)*) => {
@@ -28,9 +28,9 @@ macro_rules! proved {
     (@ $function:tt [$($c:tt)*] [$($made:tt)*] [$($passed:tt)*] $name:ident: $number:ty, $($rest:tt)*) => {
         proved!(@ $function [$($c)* $name: $number,] [$($made)*] [$($passed)* $name,] $($rest)*);
     };
-    (@ [$library:literal, $symbol:literal, fn $name:ident($($parameters:tt)*) -> $result:ty] [$($c:tt)*] [$($made:tt)*] [$($passed:tt)*]) => {
+    (@ [$symbol:literal, fn $name:ident($($parameters:tt)*) -> $result:ty] [$($c:tt)*] [$($made:tt)*] [$($passed:tt)*]) => {
         pub fn $name($($parameters)*) -> $result {
-            #[link(name = $library, kind = "static")]
+            #[link(name = "ratmanoep", kind = "static")]
             extern "C" {
                 #[link_name = $symbol]
                 fn proved($($c)*) -> $result;
@@ -42,7 +42,7 @@ macro_rules! proved {
 }
 
 #[rustfmt::skip]
-proved!("fast_graph_builder", "build_with_order", fn build_with_order(
+proved!("ratmanoep_build_with_order", fn build_with_order(
     n: usize, tails: &[u32], heads: &[u32], link_weights: &[u32], order: &[u32],
     limit: u32, pool: u64,
     ranks: &mut [u32],
@@ -54,14 +54,14 @@ proved!("fast_graph_builder", "build_with_order", fn build_with_order(
 ) -> u32);
 
 #[rustfmt::skip]
-proved!("tables", "check_tables", fn check_tables(
+proved!("ratmanoep_check_tables", fn check_tables(
     n: usize, ranks: &[u32],
     fwd_starts: &[u32], fwd_bases: &[u32], fwd_neighbours: &[u32], fwd_weights: &[u64], fwd_ins: &[u32], fwd_outs: &[u32],
     bwd_starts: &[u32], bwd_bases: &[u32], bwd_neighbours: &[u32], bwd_weights: &[u64], bwd_ins: &[u32], bwd_outs: &[u32],
 ) -> u32);
 
 #[rustfmt::skip]
-proved!("query", "fill_path", fn calc_path(
+proved!("ratmanoep_calc_path", fn calc_path(
     n: usize, ranks: &[u32],
     fwd_starts: &[u32], fwd_bases: &[u32], fwd_neighbours: &[u32], fwd_weights: &[u64], fwd_ins: &[u32], fwd_outs: &[u32],
     bwd_starts: &[u32], bwd_bases: &[u32], bwd_neighbours: &[u32], bwd_weights: &[u64], bwd_ins: &[u32], bwd_outs: &[u32],
@@ -71,7 +71,7 @@ proved!("query", "fill_path", fn calc_path(
 ) -> usize);
 
 #[rustfmt::skip]
-proved!("ratmanoep", "ratmanoep_calc_paths", fn calc_paths(
+proved!("ratmanoep_calc_paths", fn calc_paths(
     n: usize, ranks: &[u32],
     fwd_starts: &[u32], fwd_bases: &[u32], fwd_neighbours: &[u32], fwd_weights: &[u64], fwd_ins: &[u32], fwd_outs: &[u32],
     bwd_starts: &[u32], bwd_bases: &[u32], bwd_neighbours: &[u32], bwd_weights: &[u64], bwd_ins: &[u32], bwd_outs: &[u32],
@@ -80,7 +80,7 @@ proved!("ratmanoep", "ratmanoep_calc_paths", fn calc_paths(
     fwd_labels: &mut [u64], bwd_labels: &mut [u64], fwd_heap: &mut [u64], bwd_heap: &mut [u64],
 ) -> u32);
 
-proved!("gateway", "answer_records", fn answer_records(input: &[u8], out: &mut [u8],) -> usize);
+proved!("ratmanoep_answer_records", fn answer_records(input: &[u8], out: &mut [u8],) -> usize);
 
 /// Links.
 #[derive(Clone, Debug)]
