@@ -20,12 +20,6 @@ def columns(side, count):
     return [(f"{side}_{name}", U64 if name == "weight" else U32, count(k)) for k, name in enumerate(COLUMNS)]
 
 
-SEARCH = [
-    *numbers("nodes", "links", "start", "avoid", "limit", "asks"),
-    ("from", U32, "links"), ("to", U32, "links"), ("weight", U32, "links"),
-    ("target", U32, "asks"), ("sum", U64, "asks"), ("answer", U64, "asks"), ("count", U32, "asks"),
-]
-
 BUILD = [
     *numbers("nodes", "froms", "tos", "weights", "orders", "limit", "pool"),
     *numbers("lent_ranks", "lent_fwd_starts", "lent_bwd_starts"),

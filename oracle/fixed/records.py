@@ -1,11 +1,10 @@
 """Answered cases as records of the fixed list, and back."""
 
-from fixed.layout import BUILD, COLUMNS, HIERARCHY, QUERY, SEARCH, SIDES, decode, encode
+from fixed.layout import BUILD, COLUMNS, HIERARCHY, QUERY, SIDES, decode, encode
 from generate import shapes
 from oracle import NO_NODE, NO_WEIGHT
 
-MAGIC = {"search": b"FPS1", "build": b"FPB1", "query": b"FPQ1"}
-ASKS = ("target", "sum", "answer", "count")
+MAGIC = {"build": b"FPB1", "query": b"FPQ1"}
 TABLES = ("nodes", "ranks", "fwd_starts", "fwd", "bwd_starts", "bwd")
 
 
@@ -16,21 +15,6 @@ def columns_of(tables):
 def tables_from(record):
     columns = {side: [record[f"{side}_{name}"] for name in COLUMNS] for side in SIDES}
     return {name: columns.get(name, record.get(name)) for name in TABLES}
-
-
-def search_bytes(case):
-    asks = case["asks_target_sum_answer_count"]
-    record = {**case, **case["links"], "links": len(case["links"]["from"]), "asks": len(asks)}
-    record.update(zip(ASKS, zip(*asks)))
-    return encode(SEARCH, record)
-
-
-def search_case(data, at):
-    record, at = decode(SEARCH, data, at)
-    links = list(zip(record["from"], record["to"], record["weight"]))
-    asks = zip(*(record[name] for name in ASKS))
-    yield shapes.search(record["nodes"], links, record["start"], record["avoid"], record["limit"], asks)
-    return at
 
 
 def build_bytes(case):
@@ -103,7 +87,7 @@ def group_cases(data, at):
     return at
 
 
-READ = {b"FPS1": search_case, b"FPB1": build_case, b"FPQ1": group_cases}
+READ = {b"FPB1": build_case, b"FPQ1": group_cases}
 
 
 def file_bytes(magic, records):

@@ -11,7 +11,7 @@ use crate::path_calculator::PathCalculator;
 use crate::preparation_graph::PreparationGraph;
 use crate::room::{contract_within, Room};
 use crate::shortest_path::ShortestPath;
-use crate::tables::{equally_long, is_permutation, longest_opening, Tables};
+use crate::tables::{equally_long, is_permutation, Checked, Tables};
 use crate::witness_search::WitnessSearch;
 
 /// The crate unpacks a walk before anything is known of its length; tables that open into more links
@@ -33,7 +33,7 @@ fn no_answer(case: &mut Json, why: &str) {
 }
 
 /// What a build is lent: how many places of each column, and whether scratch is below its formula.
-#[derive(Clone, Debug)]
+#[derive(Clone, Copy, Debug)]
 pub struct Lent {
     pub ranks: usize,
     pub fwd_starts: usize,
@@ -104,11 +104,13 @@ pub fn build_within(graph: &InputGraph, order: &[NodeId], limit: usize, lent: &L
     }
     let room = Room { pool: lent.pool, fwd: lent.fwd[0], bwd: lent.bwd[0] };
     let peak = contract_within(graph, order, limit, &room)?;
+    Ok((crates_build(graph, order, limit), peak))
+}
+
+/// The crate's build of links and an order that it takes.
+pub fn crates_build(graph: &InputGraph, order: &[NodeId], limit: usize) -> FastGraph {
     let params = ParamsWithOrder::new(limit);
-    match FastGraphBuilder::build_with_order_with_params(graph, order, &params) {
-        Ok(built) => Ok((built, peak)),
-        Err(why) => fail(&why),
-    }
+    FastGraphBuilder::build_with_order_with_params(graph, order, &params).unwrap_or_else(|why| fail(&why))
 }
 
 /// Every lent place after a build: ranks, and for each table starts, bases, neighbours, weights and the two numbers. What was used
@@ -187,7 +189,7 @@ pub fn entry(e: &FastGraphEdge) -> [u64; 5] {
 
 fn query(case: &mut Json) {
     let asked = Asked::of(case);
-    let found = query_within(&Tables::of(case), &asked);
+    let found = query_within(Tables::of(case).read().as_ref(), &asked);
     let Some(Answered { number, weight, length, path }) = handed_back(&asked, found) else {
         return no_answer(case, "an entry opens into more than 2^20 links");
     };
@@ -213,7 +215,12 @@ impl Ends {
         }
     }
 
-    fn pairs(&self) -> Vec<(NodeId, Weight)> {
+    /// One node at offset 0.
+    pub fn one(node: NodeId) -> Ends {
+        Ends { nodes: vec![node], offsets: vec![0] }
+    }
+
+    pub fn pairs(&self) -> Vec<(NodeId, Weight)> {
         self.nodes.iter().copied().zip(self.offsets.iter().copied()).collect()
     }
 }
@@ -247,13 +254,14 @@ pub enum Stop {
     TooManyOpened,
 }
 
-/// The route or "none".
-pub fn query_within(tables: &Tables, asked: &Asked) -> Result<Option<ShortestPath>, Stop> {
-    query_on(&tables.read().ok_or(Stop::Refused(20))?, asked)
+/// The route or "none", on tables that were read.
+pub fn query_within(tables: Option<&Checked>, asked: &Asked) -> Result<Option<ShortestPath>, Stop> {
+    query_on(tables.ok_or(Stop::Refused(20))?, asked)
 }
 
 /// The same on tables that keep the rules.
-pub fn query_on(graph: &FastGraph, asked: &Asked) -> Result<Option<ShortestPath>, Stop> {
+pub fn query_on(tables: &Checked, asked: &Asked) -> Result<Option<ShortestPath>, Stop> {
+    let graph = &tables.graph;
     let nodes = graph.get_num_nodes();
     let sides = [&asked.sources, &asked.targets];
     if sides.iter().any(|ends| ends.nodes.len() != ends.offsets.len() || !(1..=MAX_ENDS).contains(&ends.nodes.len())) {
@@ -268,7 +276,7 @@ pub fn query_on(graph: &FastGraph, asked: &Asked) -> Result<Option<ShortestPath>
     if asked.places < nodes || asked.scratch_short {
         return Err(Stop::Refused(24));
     }
-    if longest_opening(graph) > MOST_OPENED {
+    if tables.longest_opening > MOST_OPENED {
         return Err(Stop::TooManyOpened);
     }
     let found = PathCalculator::new(nodes)

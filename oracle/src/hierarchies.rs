@@ -1,50 +1,57 @@
 //! Tables for the proved code: as the crate builds them, damaged, and made up by the rules.
 
-use crate::answer::entry;
+use crate::answer::{crates_build, entry};
 use crate::constants::{NodeId, INVALID_EDGE, MAX_SUM};
 use crate::fail;
 use crate::fast_graph::{FastGraph, FastGraphEdge};
 use crate::input_graph::InputGraph;
-use crate::lent::{proved, Table};
 use crate::meshes::Rng;
-use crate::random::{below, shuffled};
+use crate::random::{any_column, any_number, below, random_graph, random_size, shuffled};
 use crate::tables::Tables;
-use crate::timing::build;
 use std::cmp::Reverse;
 
-#[rustfmt::skip]
-proved!("tables", fn check_tables(
-    n: usize, ranks: &[u32],
-    fwd_starts: &[u32], fwd_bases: &[u32], fwd_neighbours: &[u32], fwd_weights: &[u64], fwd_ins: &[u32], fwd_outs: &[u32],
-    bwd_starts: &[u32], bwd_bases: &[u32], bwd_neighbours: &[u32], bwd_weights: &[u64], bwd_ins: &[u32], bwd_outs: &[u32],
-) -> u32);
+pub const KINDS: [&str; 5] = ["built tables", "damaged built tables", "made-up tables", "damaged made-up tables", "tables of any numbers"];
 
-/// Tables in columns of the proved code's widths.
-pub struct Hierarchy {
-    pub nodes: usize,
-    pub ranks: Vec<u32>,
-    pub fwd: Table,
-    pub bwd: Table,
-}
-
-impl Hierarchy {
-    pub fn of(tables: &Tables) -> Hierarchy {
-        Hierarchy {
-            nodes: tables.nodes,
-            ranks: tables.ranks.iter().map(|&rank| rank as u32).collect(),
-            fwd: Table::of(&tables.fwd_starts, &tables.fwd),
-            bwd: Table::of(&tables.bwd_starts, &tables.bwd),
+/// Some tables, of one of the kinds; with them the graph, where they are what the crate built of it.
+pub fn drawn(numbers: &mut Rng, round: usize) -> (&'static str, Tables, Option<InputGraph>) {
+    let kind = [0, 0, 0, 0, 0, 1, 1, 2, 2, 2, 2, 2, 3, 3, 4][below(numbers, 15)];
+    let graph = (kind < 2).then(|| random_graph(numbers, round));
+    let mut tables = match &graph {
+        Some(graph) => built(numbers, graph),
+        None if kind == 4 => any_tables(numbers),
+        None => {
+            let nodes = random_size(numbers, round);
+            made_up(numbers, nodes)
+        }
+    };
+    if kind % 2 == 1 {
+        for _ in 0..[1, 1, 1, 2, 3][below(numbers, 5)] {
+            damage(numbers, &mut tables);
         }
     }
+    (KINDS[kind], tables, graph.filter(|_| kind == 0))
+}
 
-    #[rustfmt::skip]
-    pub fn check(&self) -> u32 {
-        let Hierarchy { nodes, ranks, fwd, bwd } = self;
-        check_tables(
-            *nodes, ranks,
-            &fwd.starts, &fwd.bases, &fwd.neighbours, &fwd.weights, &fwd.ins, &fwd.outs,
-            &bwd.starts, &bwd.bases, &bwd.neighbours, &bwd.weights, &bwd.ins, &bwd.outs,
-        )
+/// Any numbers in columns of any lengths.
+fn any_tables(numbers: &mut Rng) -> Tables {
+    fn ids(numbers: &mut Rng) -> Vec<usize> {
+        any_column(numbers).into_iter().map(|id| id as u32 as usize).collect()
+    }
+    fn table(numbers: &mut Rng) -> [Vec<u64>; 5] {
+        let entries = (below(numbers, 2) == 0).then(|| below(numbers, 8));
+        [0, 1, 2, 3, 4].map(|k| {
+            let mut column = any_column(numbers);
+            column.resize(entries.unwrap_or(column.len()), 1);
+            column.into_iter().map(|number| if k == 2 { number } else { number as u32 as u64 }).collect()
+        })
+    }
+    Tables {
+        nodes: any_number(numbers) as usize,
+        ranks: ids(numbers),
+        fwd_starts: ids(numbers),
+        fwd: table(numbers),
+        bwd_starts: ids(numbers),
+        bwd: table(numbers),
     }
 }
 
@@ -72,57 +79,95 @@ pub fn tables_of(graph: &FastGraph, more: usize) -> Tables {
 }
 
 /// The crate's tables of a graph, with some order and limit.
-pub fn built(numbers: &mut Rng, graph: &InputGraph) -> Tables {
+fn built(numbers: &mut Rng, graph: &InputGraph) -> Tables {
     let nodes = graph.get_num_nodes();
     let order = shuffled(numbers, nodes);
     let limit = [0, 1, 2, nodes, 100][below(numbers, 5)];
-    tables_of(&build(graph, &order, limit), below(numbers, 3))
+    tables_of(&crates_build(graph, &order, limit), below(numbers, 3))
 }
 
-/// Tables that keep the rules though no build made them: several entries between the same two nodes, weights of no shortest way,
-/// shortcuts over any entries that fit.
-pub fn made_up(numbers: &mut Rng, nodes: usize) -> Tables {
+/// Tables that keep the rules though no build made them.
+fn made_up(numbers: &mut Rng, nodes: usize) -> Tables {
     let order = shuffled(numbers, nodes);
-    let mut graph = FastGraph::new(nodes);
-    for (rank, &node) in order.iter().enumerate() {
-        graph.ranks[node] = rank;
-    }
-    // In a tower every two nodes have an entry, above the lowest rank the heaviest shortcut that fits: it opens into 2^rank links.
-    let tower = nodes <= 24 && below(numbers, 2) == 0;
-    let heaviest = [1, 3, 9, MAX_SUM as usize][below(numbers, 4)];
-    for (rank, &base) in order.iter().enumerate() {
-        let above = &order[rank + 1..];
-        let plain = |adj, weight| FastGraphEdge::new(base, adj, weight, INVALID_EDGE, INVALID_EDGE);
-        for forward in [true, false] {
-            let mut fitting = shortcuts(&graph, base, forward);
-            let mut entries: Vec<FastGraphEdge> = vec![];
-            if tower && rank == 0 {
-                entries.extend(above.iter().map(|&adj| plain(adj, 1)));
-            } else if tower {
-                fitting.sort_by_key(|e| (e.adj_node, Reverse(e.weight)));
-                fitting.dedup_by_key(|e| e.adj_node);
-                entries = fitting;
-            } else if !above.is_empty() {
-                for _ in 0..below(numbers, 3) {
-                    entries.push(plain(above[below(numbers, above.len())], 1 + below(numbers, heaviest) as u64));
-                }
-                for _ in 0..below(numbers, 4).min(fitting.len()) {
-                    entries.push(fitting[below(numbers, fitting.len())]);
-                }
-            }
-            let (edges, starts) = match forward {
-                true => (&mut graph.edges_fwd, &mut graph.first_edge_ids_fwd),
-                false => (&mut graph.edges_bwd, &mut graph.first_edge_ids_bwd),
-            };
-            edges.extend(entries);
-            starts[rank + 1] = edges.len();
-        }
-    }
+    let graph = if nodes <= 24 && below(numbers, 2) == 0 { tower(&order) } else { jumble(numbers, &order) };
     let tables = tables_of(&graph, below(numbers, 3));
     if tables.read().is_none() {
         fail("made-up tables break a rule");
     }
     tables
+}
+
+/// Every two nodes have an entry, above the lowest rank the heaviest shortcut that fits: it opens into 2^rank links.
+pub fn tower(order: &[NodeId]) -> FastGraph {
+    laid_out(order, |graph, rank, forward| {
+        let (base, above) = (order[rank], &order[rank + 1..]);
+        if rank == 0 {
+            return above.iter().map(|&adj| plain(base, adj, 1)).collect();
+        }
+        let mut fitting = shortcuts(graph, base, forward);
+        fitting.sort_by_key(|e| (e.adj_node, Reverse(e.weight)));
+        fitting.dedup_by_key(|e| e.adj_node);
+        fitting
+    })
+}
+
+/// Every two nodes have an entry, above the lowest rank a shortcut over any lower node.
+pub fn complete(numbers: &mut Rng, order: &[NodeId]) -> FastGraph {
+    laid_out(order, |graph, rank, forward| {
+        let entry = |adj_rank: usize| {
+            let (base, adj) = (order[rank], order[adj_rank]);
+            if rank == 0 {
+                return plain(base, adj, 1);
+            }
+            let centre = below(numbers, rank);
+            // The entries of a rank are in the order of their neighbours' ranks.
+            let [near, far] = [rank, adj_rank].map(|neighbour| neighbour - centre - 1);
+            let (tail, head) = if forward { (near, far) } else { (far, near) };
+            let (i, o) = (graph.first_edge_ids_bwd[centre] + tail, graph.first_edge_ids_fwd[centre] + head);
+            FastGraphEdge::new(base, adj, graph.edges_bwd[i].weight + graph.edges_fwd[o].weight, i, o)
+        };
+        (rank + 1..order.len()).map(entry).collect()
+    })
+}
+
+/// Several entries between the same two nodes, weights of no shortest way, shortcuts over any entries that fit.
+fn jumble(numbers: &mut Rng, order: &[NodeId]) -> FastGraph {
+    let heaviest = [1, 3, 9, MAX_SUM as usize][below(numbers, 4)];
+    laid_out(order, |graph, rank, forward| {
+        let (base, above) = (order[rank], &order[rank + 1..]);
+        let fitting = shortcuts(graph, base, forward);
+        let mut entries = vec![];
+        if !above.is_empty() {
+            for _ in 0..below(numbers, 3) {
+                entries.push(plain(base, above[below(numbers, above.len())], 1 + below(numbers, heaviest) as u64));
+            }
+            for _ in 0..below(numbers, 4).min(fitting.len()) {
+                entries.push(fitting[below(numbers, fitting.len())]);
+            }
+        }
+        entries
+    })
+}
+
+fn plain(base: NodeId, adj: NodeId, weight: u64) -> FastGraphEdge {
+    FastGraphEdge::new(base, adj, weight, INVALID_EDGE, INVALID_EDGE)
+}
+
+/// A hierarchy of the entries that are given for each rank, forward and then backward.
+fn laid_out(order: &[NodeId], mut entries: impl FnMut(&FastGraph, usize, bool) -> Vec<FastGraphEdge>) -> FastGraph {
+    let mut graph = FastGraph::new(order.len());
+    for (rank, &node) in order.iter().enumerate() {
+        graph.ranks[node] = rank;
+    }
+    for rank in 0..order.len() {
+        let fwd = entries(&graph, rank, true);
+        graph.edges_fwd.extend(fwd);
+        graph.first_edge_ids_fwd[rank + 1] = graph.edges_fwd.len();
+        let bwd = entries(&graph, rank, false);
+        graph.edges_bwd.extend(bwd);
+        graph.first_edge_ids_bwd[rank + 1] = graph.edges_bwd.len();
+    }
+    graph
 }
 
 /// All entries of a node that may stand for two of a lower one; those of lower ranks are all there.
@@ -164,7 +209,7 @@ fn resize<T: Default>(numbers: &mut Rng, column: &mut Vec<T>) {
 }
 
 /// One number changed, or a column cut or grown, or another count of nodes.
-pub fn damage(numbers: &mut Rng, tables: &mut Tables) {
+fn damage(numbers: &mut Rng, tables: &mut Tables) {
     let nodes = tables.nodes.min(2000);
     if below(numbers, 12) == 0 {
         tables.nodes = [nodes + 1, nodes.saturating_sub(1), 1024, 1025, usize::MAX][below(numbers, 5)];
@@ -194,4 +239,3 @@ pub fn damage(numbers: &mut Rng, tables: &mut Tables) {
         }
     }
 }
-

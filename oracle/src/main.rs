@@ -53,6 +53,12 @@ mod path_calculator {
     given!("path_calculator.rs");
 }
 
+/// The third witness: least weights of all pairs, from the links alone.
+#[cfg(beside)]
+mod floyd_warshall {
+    given!("floyd_warshall.rs");
+}
+
 mod constants;
 mod fast_graph;
 mod heap_item;
@@ -62,40 +68,34 @@ mod shortest_path;
 mod valid_flags;
 
 mod answer;
-#[cfg(beside = "searches")]
-mod beside;
-#[cfg(beside = "builds")]
-mod beside_builds;
-#[cfg(beside = "checks")]
-mod beside_checks;
-#[cfg(beside = "graphs")]
-mod beside_graphs;
-#[cfg(beside = "queries")]
-mod beside_queries;
-#[cfg(beside = "records")]
-mod beside_records;
-mod changes;
-mod drawn;
-#[cfg(any(beside = "checks", beside = "queries"))]
-#[allow(dead_code)] // some parts may be left out
-mod hierarchies;
 mod json;
-#[cfg(beside)]
-#[allow(dead_code)] // some parts may be left out
-mod lent;
-mod meshes;
-#[cfg(beside)]
-#[allow(dead_code)] // some parts may be left out
-mod random;
 mod records;
 mod room;
 mod tables;
+
+// With the proved code linked.
+#[cfg(beside)]
+mod beside;
+#[cfg(beside)]
+mod guard;
+#[cfg(beside)]
+mod hierarchies;
+#[cfg(beside)]
+mod lent;
+#[cfg(beside)]
+mod limits;
+#[cfg(beside)]
+mod meshes;
+#[cfg(beside)]
+mod random;
+#[cfg(beside)]
+mod stack;
+#[cfg(beside)]
 mod timing;
-#[cfg(any(beside = "builds", beside = "queries"))]
+#[cfg(beside)]
 mod tiny;
 
 use std::io::{BufRead, BufWriter, Read, Write};
-use std::path::Path;
 
 /// One line on what is wrong, and out.
 fn fail(why: &str) -> ! {
@@ -107,47 +107,16 @@ fn main() {
     let args: Vec<String> = std::env::args().skip(1).collect();
     match args.iter().map(String::as_str).collect::<Vec<_>>()[..] {
         ["answer"] => answer_all(false),
-        ["drawn"] => drawn::lines(),
         ["answer", "--peak"] => answer_all(true),
         ["records"] => answer_records(),
         #[cfg(beside)]
-        ["beside", count, seed] => match (count.parse(), seed.parse()) {
-            (Ok(count), Ok(seed)) => beside_all(count, seed),
-            _ => fail("usage: oracle beside COUNT SEED"),
-        },
-        ["time", "--write", folder, ref names @ ..] => timing::time(names, Some(Path::new(folder))),
-        ["time", ref names @ ..] => timing::time(names, None),
-        _ => fail("usage: oracle answer [--peak] | oracle drawn | oracle records | oracle time [--write FOLDER] [GRAPH ...]"),
+        ["beside", ref words @ ..] => beside::run(words),
+        #[cfg(beside)]
+        ["time", ref names @ ..] => timing::time(names),
+        #[cfg(beside)]
+        ["limits"] => limits::measure(),
+        _ => fail("usage: oracle answer [--peak] | oracle records"),
     }
-}
-
-/// The proved code that was linked beside the crate: so many cases of each part, then the meshes against the clock.
-#[cfg(beside)]
-fn beside_all(count: usize, seed: u64) {
-    #[cfg(beside = "graphs")]
-    beside_graphs::compare(count, seed);
-    #[cfg(beside = "searches")]
-    {
-        beside::compare(count, seed);
-        beside::race()
-    }
-    #[cfg(beside = "builds")]
-    {
-        beside_builds::compare(count, seed);
-        beside_builds::race()
-    }
-    #[cfg(beside = "checks")]
-    {
-        beside_checks::compare(count, seed);
-        beside_checks::race()
-    }
-    #[cfg(beside = "queries")]
-    {
-        beside_queries::compare(count, seed);
-        beside_queries::race()
-    }
-    #[cfg(beside = "records")]
-    beside_records::compare(count, seed);
 }
 
 /// Standard input holds one case a line; each is printed again with its answer.

@@ -5,20 +5,12 @@ use crate::constants::NodeId;
 use crate::input_graph::{Edge, InputGraph};
 use std::collections::BTreeMap;
 
-pub const NAMES: [&str; 5] = ["grid32", "grid95", "nearest3", "nearest5", "uniform"];
-
 /// Meshes that a build may be handed: at most 1,024 nodes.
-#[cfg(beside)]
-#[allow(dead_code)] // some parts may be left out
-pub const SMALL: [&str; 5] = ["grid32", "nearest3k", "nearest5k", "uniform2k", "uniform3k"];
+pub const NAMES: [&str; 5] = ["grid32", "nearest3k", "nearest5k", "uniform2k", "uniform3k"];
 
 pub fn mesh(name: &str) -> InputGraph {
     match name {
         "grid32" => grid(32),
-        "grid95" => grid(95),
-        "nearest3" => nearest(9_000, 3),
-        "nearest5" => nearest(9_000, 5),
-        "uniform" => uniform(9_000, 18_000),
         "nearest3k" => nearest(1_000, 3),
         "nearest5k" => nearest(1_000, 5),
         "uniform2k" => uniform(1_000, 2_000),
@@ -77,7 +69,7 @@ fn nearest(nodes: usize, neighbours: usize) -> InputGraph {
 }
 
 /// Links between any two nodes, weights 1 to 100.
-fn uniform(nodes: usize, count: usize) -> InputGraph {
+pub fn uniform(nodes: usize, count: usize) -> InputGraph {
     let mut rng = Rng(3);
     let mut links = Links::new();
     while links.len() < count {
@@ -94,10 +86,14 @@ pub struct Rng(pub u64);
 
 impl Rng {
     pub fn below(&mut self, bound: u64) -> u64 {
+        self.next() % bound
+    }
+
+    pub fn next(&mut self) -> u64 {
         self.0 = self.0.wrapping_add(0x9E37_79B9_7F4A_7C15);
         let mut z = self.0;
         z = (z ^ (z >> 30)).wrapping_mul(0xBF58_476D_1CE4_E5B9);
         z = (z ^ (z >> 27)).wrapping_mul(0x94D0_49BB_1331_11EB);
-        (z ^ (z >> 31)) % bound
+        z ^ (z >> 31)
     }
 }

@@ -9,6 +9,22 @@ pub fn below(numbers: &mut Rng, bound: usize) -> usize {
     numbers.below(bound as u64) as usize
 }
 
+/// A number that a rule may turn on, or any.
+pub fn any_number(numbers: &mut Rng) -> u64 {
+    match below(numbers, 9) {
+        0 => numbers.next(),
+        1 => numbers.next() as u32 as u64,
+        2 => [u32::MAX as u64, u64::MAX, 1 << 40, (1 << 40) + 1, 1 << 63, 1024, 1025][below(numbers, 7)],
+        _ => below(numbers, 6) as u64,
+    }
+}
+
+/// Few such numbers, or none; now and then many.
+pub fn any_column(numbers: &mut Rng) -> Vec<u64> {
+    let most = if below(numbers, 100) == 0 { 3000 } else { 8 };
+    (0..below(numbers, most)).map(|_| any_number(numbers)).collect()
+}
+
 /// Links sorted by tail and head, one for a pair, no loops, often of equal weights.
 pub fn links(numbers: &mut Rng, nodes: usize) -> InputGraph {
     let (share, heaviest) = (1 + below(numbers, 9), [1, 3, 9, 1000, 4_294_967_295][below(numbers, 5)]);
@@ -23,16 +39,18 @@ pub fn links(numbers: &mut Rng, nodes: usize) -> InputGraph {
     InputGraph::new(nodes, edges)
 }
 
-/// Up to 12 nodes, now and then up to 40 or up to 1,024.
-pub fn random_size(numbers: &mut Rng, case: usize) -> usize {
-    if case % 20_000 == 19_999 {
-        return 1024 - below(numbers, 200);
+/// Up to 12 nodes, now and then up to 40, up to 200 or up to 1,024.
+pub fn random_size(numbers: &mut Rng, round: usize) -> usize {
+    match round {
+        _ if round % 5000 == 4999 => 1024 - below(numbers, 200),
+        _ if round % 1000 == 500 => below(numbers, 201),
+        _ if round % 100 == 0 => below(numbers, 41),
+        _ => below(numbers, 13),
     }
-    below(numbers, if case % 100 == 0 { 41 } else { 13 })
 }
 
-pub fn random_graph(numbers: &mut Rng, case: usize) -> InputGraph {
-    let nodes = random_size(numbers, case);
+pub fn random_graph(numbers: &mut Rng, round: usize) -> InputGraph {
+    let nodes = random_size(numbers, round);
     graph_of(numbers, nodes)
 }
 

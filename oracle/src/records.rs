@@ -4,7 +4,7 @@
 use crate::answer::{build_within, checked, query_on, Asked, Ends, Lent, Stop};
 use crate::constants::{NodeId, Weight};
 use crate::fail;
-use crate::fast_graph::FastGraph;
+use crate::tables::Checked;
 
 pub const MOST_BYTES: usize = 16_384;
 pub const MOST_NODES: usize = 32;
@@ -59,7 +59,7 @@ impl Network {
     }
 
     /// The hierarchy, or the number of the refusal.
-    fn build(&self, limit: u32) -> Result<FastGraph, u64> {
+    fn build(&self, limit: u32) -> Result<Checked, u64> {
         if self.nodes > MOST_NODES {
             return Err(1);
         }
@@ -77,7 +77,7 @@ impl Network {
         };
         let graph = checked(self.nodes, &self.from, &self.to, &self.weight)?;
         let (built, _) = build_within(&graph, &self.order, limit as usize, &lent)?;
-        Ok(built)
+        Ok(Checked::new(built))
     }
 }
 
@@ -85,7 +85,7 @@ impl Network {
 enum Phase {
     Waiting,
     Gathering(Network),
-    Answering(FastGraph),
+    Answering(Checked),
 }
 
 /// What the program writes.
@@ -115,11 +115,11 @@ fn run(input: &[u8], lines: &mut Vec<String>) -> Result<(), String> {
             }
             (Phase::Gathering(network), Record::Order(node)) => network.order.push(node.into()),
             (Phase::Gathering(network), Record::Limit(limit)) => {
-                let graph = network.build(limit).map_err(refused)?;
-                lines.push(format!("built {} {}", graph.get_num_out_edges(), graph.get_num_in_edges()));
-                phase = Phase::Answering(graph)
+                let built = network.build(limit).map_err(refused)?;
+                lines.push(format!("built {} {}", built.graph.get_num_out_edges(), built.graph.get_num_in_edges()));
+                phase = Phase::Answering(built)
             }
-            (Phase::Answering(graph), Record::Query(source, target)) => lines.push(answer(graph, source, target)),
+            (Phase::Answering(built), Record::Query(source, target)) => lines.push(answer(built, source, target)),
             _ => return Err(bad_record(at)),
         }
         at += length;
@@ -135,10 +135,9 @@ fn refused(number: u64) -> String {
 }
 
 /// The line for a query.
-fn answer(graph: &FastGraph, source: u16, target: u16) -> String {
-    let end = |node: u16| Ends { nodes: vec![node.into()], offsets: vec![0] };
-    let asked = Asked { sources: end(source), targets: end(target), places: MOST_NODES, filled: 0, scratch_short: false };
-    match query_on(graph, &asked) {
+fn answer(built: &Checked, source: u16, target: u16) -> String {
+    let asked = Asked { sources: Ends::one(source.into()), targets: Ends::one(target.into()), places: MOST_NODES, filled: 0, scratch_short: false };
+    match query_on(built, &asked) {
         Ok(Some(path)) => path.nodes.iter().fold(format!("route {}:", path.weight), |line, node| format!("{line} {node}")),
         Ok(None) => "none".to_string(),
         Err(Stop::Refused(number)) => refused(number),

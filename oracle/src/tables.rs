@@ -33,7 +33,7 @@ impl Tables {
     }
 
     /// The hierarchy in them, without the places beyond those used; or none, if it breaks a table rule.
-    pub fn read(&self) -> Option<FastGraph> {
+    pub fn read(&self) -> Option<Checked> {
         let nodes = self.nodes;
         if nodes > MAX_NODES || self.ranks.len() < nodes || !is_permutation(&self.ranks[..nodes]) {
             return None;
@@ -52,7 +52,19 @@ impl Tables {
         }) && entries_fit(&graph, &graph.first_edge_ids_bwd, &graph.edges_bwd, |e| {
             (e.adj_node, e.base_node)
         });
-        fits.then_some(graph)
+        fits.then(|| Checked::new(graph))
+    }
+}
+
+/// A hierarchy that keeps the rules, and the most links that any of its entries opens into.
+pub struct Checked {
+    pub graph: FastGraph,
+    pub longest_opening: u64,
+}
+
+impl Checked {
+    pub fn new(graph: FastGraph) -> Checked {
+        Checked { longest_opening: longest_opening(&graph), graph }
     }
 }
 
@@ -114,7 +126,7 @@ fn entries_fit(
 
 /// The most links that any entry opens into. Replaced entries are of lower rank, so going up the
 /// ranks their numbers are known.
-pub fn longest_opening(graph: &FastGraph) -> u64 {
+fn longest_opening(graph: &FastGraph) -> u64 {
     let mut fwd: Vec<u64> = Vec::new();
     let mut bwd: Vec<u64> = Vec::new();
     for rank in 0..graph.ranks.len() {

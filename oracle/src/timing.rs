@@ -1,52 +1,55 @@
-//! Times the given-order build of the crate, with the order that its own `run_contraction` chooses.
+//! Times the proved code and the crate on the meshes, in turn in one process, so that other work on the machine falls on both.
 
-use crate::answer::entry;
-use crate::constants::NodeId;
+use crate::answer::crates_build;
+use crate::beside::{Build, Ours, Subject};
+use crate::constants::{NodeId, WEIGHT_MAX};
 use crate::fail;
 use crate::fast_graph::FastGraph;
-use crate::fast_graph_builder::{FastGraphBuilder, Params, ParamsWithOrder};
+use crate::fast_graph_builder::{FastGraphBuilder, Params};
+use crate::hierarchies::tables_of;
 use crate::input_graph::InputGraph;
-use crate::meshes::{mesh, NAMES};
+use crate::lent::{Routes, FILLED};
+use crate::meshes::{mesh, Rng, NAMES};
+use crate::path_calculator::PathCalculator;
+use crate::random::below;
 use crate::room::{contract_within, Room};
-use std::path::Path;
 use std::time::Instant;
 
-pub const LIMIT: usize = 100;
-/// The best time is taken of at least so many builds, and of as many as fit into this time.
-const RUNS: usize = 5;
-const SECONDS: f64 = 2.0;
+const LIMIT: usize = 100;
+const QUERIES: usize = 1000;
+/// So many queries at a time, since other work on the machine seldom leaves a long run alone.
+const AT_A_TIME: usize = 50;
 
-/// Prints a line of the table for each graph, all of them if none is named; writes each to the folder,
-/// if one is given.
-pub fn time(names: &[&str], folder: Option<&Path>) {
-    let names = if names.is_empty() { &NAMES } else { names };
-    println!("graph     nodes  links    fwd    bwd   pool  order s  build s  (limit {LIMIT}, best of {RUNS} or more)");
-    for name in names {
+/// A mesh, the order that the crate's `run_contraction` chooses for it, and the tables that the crate builds with that.
+struct Mesh {
+    name: String,
+    graph: InputGraph,
+    order: Vec<NodeId>,
+    built: FastGraph,
+}
+
+impl Mesh {
+    fn new(name: &&str) -> Mesh {
         let graph = mesh(name);
-        let (nodes, links) = (graph.get_num_nodes(), graph.get_edges().len());
-        eprintln!("{name}: {nodes} nodes, {links} links; choosing the order");
-        let (order, choosing) = timed(|| chosen_order(&graph));
-        eprintln!("{name}: order chosen in {choosing:.1} s; building");
-        let (built, mut best) = timed(|| build(&graph, &order, LIMIT));
-        let (mut runs, mut total) = (1, best);
-        while runs < RUNS || total < SECONDS {
-            let (_, seconds) = timed(|| build(&graph, &order, LIMIT));
-            best = best.min(seconds);
-            total += seconds;
-            runs += 1;
+        let chosen = FastGraphBuilder::build_with_params(&graph, &Params::default());
+        let mut order = vec![0; chosen.ranks.len()];
+        for (node, &rank) in chosen.ranks.iter().enumerate() {
+            order[rank] = node;
         }
-        let enough = Room { pool: usize::MAX, fwd: usize::MAX, bwd: usize::MAX };
-        let Ok(peak) = contract_within(&graph, &order, LIMIT, &enough) else {
-            fail("a pair sum exceeds 2^40")
-        };
-        let (fwd, bwd) = (built.edges_fwd.len(), built.edges_bwd.len());
-        println!("{name:<8} {nodes:>6} {links:>6} {fwd:>6} {bwd:>6} {peak:>6} {choosing:>8.2} {best:>8.4}");
-        if let Some(folder) = folder {
-            let path = folder.join(format!("{name}.bin"));
-            let bytes = file(&graph, &order, &built, peak);
-            std::fs::write(&path, bytes).unwrap_or_else(|why| fail(&format!("{}: {why}", path.display())));
-        }
+        let built = crates_build(&graph, &order, LIMIT);
+        Mesh { name: name.to_string(), graph, order, built }
     }
+}
+
+/// All meshes, or those named.
+pub fn time(names: &[&str]) {
+    let meshes: Vec<Mesh> = if names.is_empty() { &NAMES } else { names }.iter().map(Mesh::new).collect();
+    println!("builds (limit {LIMIT}, columns and scratch allocated and filled in the time)");
+    println!("graph     nodes  links  entries   ours ms  crate ms  ours/crate");
+    meshes.iter().for_each(time_builds);
+    println!("\nqueries, us each; over the crate's");
+    println!("graph      crate   whole    many   check   empty    whole   many  check  whole - check  whole - empty");
+    meshes.iter().for_each(time_queries);
 }
 
 pub fn timed<T>(work: impl FnOnce() -> T) -> (T, f64) {
@@ -56,61 +59,91 @@ pub fn timed<T>(work: impl FnOnce() -> T) -> (T, f64) {
 }
 
 /// The best of nine runs of each, in turn; all must give the same.
-#[cfg(beside)]
-#[allow(dead_code)] // some parts may be left out
-pub fn best_of<T: PartialEq, const N: usize>(mut runs: [&mut dyn FnMut() -> T; N]) -> [f64; N] {
+fn best_of<const N: usize>(mut runs: [&mut dyn FnMut() -> usize; N]) -> [f64; N] {
     let mut least = [f64::MAX; N];
     let mut given = None;
     for _ in 0..9 {
         for (run, least) in runs.iter_mut().zip(&mut least) {
             let (result, seconds) = timed(run);
             *least = least.min(seconds);
-            match &given {
-                None => given = Some(result),
-                Some(given) if *given == result => {}
-                Some(_) => fail("a mesh came out otherwise"),
+            if *given.get_or_insert(result) != result {
+                fail("a mesh came out otherwise");
             }
         }
     }
     least
 }
 
-pub fn chosen_order(graph: &InputGraph) -> Vec<NodeId> {
-    let built = FastGraphBuilder::build_with_params(graph, &Params::default());
-    let mut order = vec![0; built.ranks.len()];
-    for (node, &rank) in built.ranks.iter().enumerate() {
-        order[rank] = node;
-    }
-    order
-}
-
-pub fn build(graph: &InputGraph, order: &[NodeId], limit: usize) -> FastGraph {
-    let params = ParamsWithOrder::new(limit);
-    FastGraphBuilder::build_with_order_with_params(graph, order, &params).unwrap_or_else(|why| fail(&why))
-}
-
-/// Graph, order and what the build must give, as README.md lays it out.
-fn file(graph: &InputGraph, order: &[NodeId], built: &FastGraph, peak: usize) -> Vec<u8> {
-    let mut bytes = b"FPG1".to_vec();
-    let mut put = |number: usize| bytes.extend(&(number as u32).to_le_bytes());
-    let edges = graph.get_edges();
+/// Ours with its columns and scratch filled anew each time, the crate with its own allocations.
+fn time_builds(mesh: &Mesh) {
+    let Mesh { name, graph, order, built } = mesh;
     let (fwd, bwd) = (built.edges_fwd.len(), built.edges_bwd.len());
-    [order.len(), edges.len(), LIMIT, peak, fwd, bwd].into_iter().for_each(&mut put);
-    edges.iter().for_each(|e| put(e.from));
-    edges.iter().for_each(|e| put(e.to));
-    edges.iter().for_each(|e| put(e.weight as usize));
-    order.iter().for_each(|&node| put(node));
-    bytes.extend(&checksum(built).to_le_bytes());
-    bytes
+    let enough = Room { pool: usize::MAX, fwd, bwd };
+    let Ok(pool) = contract_within(graph, order, LIMIT, &enough) else { fail("a pair sum exceeds 2^40") };
+    let call = Build::new(graph, order, LIMIT as u32).within(&Room { pool, fwd, bwd });
+    let entries = |[fwd, bwd]: [usize; 2]| fwd + bwd;
+    let [ours, theirs] = best_of([
+        &mut || {
+            let mut lent = Ours::lent(&call);
+            lent.build(&call);
+            entries(lent.entries(order.len()))
+        },
+        &mut || {
+            let built = crates_build(graph, order, LIMIT);
+            entries([built.edges_fwd.len(), built.edges_bwd.len()])
+        },
+    ]);
+    print!("{name:<10} {:>4} {:>6} {:>8}", order.len(), graph.get_edges().len(), fwd + bwd);
+    println!(" {:>9.2} {:>9.2} {:>11.2}", 1e3 * ours, 1e3 * theirs, ours / theirs);
 }
 
-/// FNV-1a, a number at a time, over ranks, starts and entries, so that a benchmark can tell whether
-/// it built the same tables.
-fn checksum(built: &FastGraph) -> u64 {
-    let ids = [&built.ranks, &built.first_edge_ids_fwd, &built.first_edge_ids_bwd];
-    let ids = ids.into_iter().flatten().map(|&id| id as u64);
-    let entries = built.edges_fwd.iter().chain(&built.edges_bwd).flat_map(entry);
-    ids.chain(entries).fold(0xCBF2_9CE4_8422_2325, |sum, number| {
-        (sum ^ number).wrapping_mul(0x100_0000_01B3)
-    })
+/// Queries of one source and one target by both, the crate's calculator made once and our scratch left as each call leaves it; and all of
+/// a run in one call of ours. Beside them the table check, which each of our calls makes, and calls with ends that do not count: they check
+/// the tables, clear the labels and have nothing to find.
+fn time_queries(mesh: &Mesh) {
+    let built = &mesh.built;
+    let subject = Subject::new(tables_of(built, 0), None);
+    let nodes = subject.nodes();
+    let asking = |offset: u64| {
+        let mut path = vec![FILLED; nodes];
+        let mut scratch = subject.scratch().map(|length| vec![9; length]);
+        let ours = &subject.ours;
+        move |pair: &[NodeId; 2]| {
+            let [source, target] = pair.map(|node| node as u32);
+            ours.query((&[source], &[offset]), (&[target], &[offset]), &mut path, &mut scratch)
+        }
+    };
+    let (mut ask, mut ask_nothing) = (asking(0), asking(WEIGHT_MAX));
+    const NONE: (u32, u64, usize) = (0, WEIGHT_MAX, 0);
+    let mut lent = Routes::filled([AT_A_TIME, AT_A_TIME, AT_A_TIME, AT_A_TIME * nodes]);
+    let mut scratch = subject.scratch().map(|length| vec![9; length]);
+    let mut ask_all = |pairs: &[[NodeId; 2]], answers: &[(u32, u64, usize)]| {
+        let [sources, targets] = [0, 1].map(|side| pairs.iter().map(|pair| pair[side] as u32).collect::<Vec<u32>>());
+        subject.ours.routes(&sources, &targets, &mut lent, &mut scratch);
+        let answer = |k: usize| (lent.numbers[k], lent.weights[k], lent.lengths[k] as usize);
+        (0..pairs.len()).filter(|&k| answer(k) == answers[k]).count()
+    };
+    let mut calculator = PathCalculator::new(nodes);
+    let mut crates = |&[source, target]: &[NodeId; 2]| {
+        calculator.calc_path(built, source, target).map_or(NONE, |path| (0, path.weight, path.nodes.len()))
+    };
+    let mut numbers = Rng(1);
+    let pairs: Vec<[NodeId; 2]> = (0..QUERIES).map(|_| [(); 2].map(|_| below(&mut numbers, nodes))).collect();
+    let answers: Vec<_> = pairs.iter().map(&mut crates).collect();
+    let mut seconds = [0.0; 5];
+    // Each gives how many came out as they must.
+    for (pairs, answers) in pairs.chunks(AT_A_TIME).zip(answers.chunks(AT_A_TIME)) {
+        let best = best_of([
+            &mut || pairs.iter().zip(answers).filter(|(pair, answer)| crates(pair) == **answer).count(),
+            &mut || pairs.iter().zip(answers).filter(|(pair, answer)| ask(pair) == **answer).count(),
+            &mut || ask_all(pairs, answers),
+            &mut || pairs.iter().filter(|_| subject.ours.check() == 0).count(),
+            &mut || pairs.iter().filter(|pair| ask_nothing(pair) == NONE).count(),
+        ]);
+        seconds.iter_mut().zip(best).for_each(|(sum, best)| *sum += best);
+    }
+    let [theirs, whole, many, check, empty] = seconds.map(|seconds| 1e6 * seconds / QUERIES as f64);
+    let [a, b, c, d, e] = [whole, many, check, whole - check, whole - empty].map(|time| time / theirs);
+    print!("{:<10} {theirs:>5.2} {whole:>7.2} {many:>7.2} {check:>7.2} {empty:>7.2} ", mesh.name);
+    println!("{a:>8.2} {b:>6.2} {c:>6.2} {d:>14.2} {e:>14.2}");
 }

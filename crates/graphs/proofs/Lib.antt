@@ -1,4 +1,0 @@
--- What the proofs share.
-pub mod Changing
-pub mod Copying
-pub mod Listing
