@@ -1,0 +1,119 @@
+//! Queries, over buffers that are kept from one to the next.
+
+use crate::constants::{NodeId, Weight, MAX_ENDS, MAX_NODES, WEIGHT_ZERO};
+use crate::error::{answered, narrow, Error};
+use crate::fast_graph::{FastGraph, Table};
+use crate::proved::ratmanoep_calc_path;
+use crate::shortest_path::ShortestPath;
+
+/// What a query works in. One calculator serves any graph, whose buffers grow as they must; use one for each thread.
+#[derive(Clone, Debug, Default)]
+pub struct PathCalculator {
+    path: Vec<u32>,
+    fwd: Side,
+    bwd: Side,
+}
+
+/// What one direction of a search works in.
+#[derive(Clone, Debug, Default)]
+struct Side {
+    labels: Vec<u64>,
+    heap: Vec<u64>,
+}
+
+impl Side {
+    /// The lengths of docs/SCRATCH.md.
+    fn fit(&mut self, n: usize, table: &Table) {
+        grow(&mut self.labels, 4 * n);
+        grow(&mut self.heap, 2 * (table.used() + MAX_ENDS));
+    }
+}
+
+fn grow<T: Clone + Default>(buffer: &mut Vec<T>, places: usize) {
+    if buffer.len() < places {
+        buffer.resize(places, T::default());
+    }
+}
+
+/// Sources or targets in the library's widths.
+fn ends(given: Vec<(NodeId, Weight)>) -> Result<(Vec<u32>, Vec<u64>), Error> {
+    let nodes = nodes(given.iter().map(|&(node, _)| node))?;
+    Ok((nodes, given.iter().map(|&(_, offset)| offset as u64).collect()))
+}
+
+fn nodes(given: impl Iterator<Item = NodeId>) -> Result<Vec<u32>, Error> {
+    given.map(|node| narrow("node", node)).collect()
+}
+
+impl PathCalculator {
+    /// Buffers for graphs of so many nodes.
+    pub fn new(num_nodes: usize) -> Self {
+        let mut calculator = PathCalculator::default();
+        let n = num_nodes.min(MAX_NODES);
+        calculator.path.reserve(n);
+        calculator.fwd.fit(n, &Table::default());
+        calculator.bwd.fit(n, &Table::default());
+        calculator
+    }
+
+    /// The least-weight route from one node to another, or none; refusal 22 for a node that the graph does not have.
+    pub fn calc_path(&mut self, graph: &FastGraph, start: NodeId, end: NodeId) -> Result<Option<ShortestPath>, Error> {
+        self.calc_path_multiple_sources_and_targets(graph, vec![(start, WEIGHT_ZERO)], vec![(end, WEIGHT_ZERO)])
+    }
+
+    /// The least-weight route from any of 1 to 16 nodes to any of 1 to 16 nodes, or none.
+    ///
+    /// Each has an offset that its routes weigh more: 0 to 2^40, or [`WEIGHT_MAX`](crate::WEIGHT_MAX) for one that does not count. Refusals:
+    /// 21 none or more than 16, 22 a node that the graph does not have, 23 an offset above 2^40.
+    pub fn calc_path_multiple_sources_and_targets(
+        &mut self,
+        graph: &FastGraph,
+        starts: Vec<(NodeId, Weight)>,
+        ends: Vec<(NodeId, Weight)>,
+    ) -> Result<Option<ShortestPath>, Error> {
+        let (sources, source_offsets) = self::ends(starts)?;
+        let (targets, target_offsets) = self::ends(ends)?;
+        let n = self.fit(graph, 1);
+        let crate::Tables { ranks, fwd, bwd } = &graph.tables;
+        let (mut number, mut weight) = (0, 0);
+        let length = ratmanoep_calc_path(
+            n,
+            ranks,
+            &fwd.starts,
+            &fwd.bases,
+            &fwd.neighbours,
+            &fwd.weights,
+            &fwd.ins,
+            &fwd.outs,
+            &bwd.starts,
+            &bwd.bases,
+            &bwd.neighbours,
+            &bwd.weights,
+            &bwd.ins,
+            &bwd.outs,
+            &sources,
+            &source_offsets,
+            &targets,
+            &target_offsets,
+            &mut self.path,
+            &mut number,
+            &mut weight,
+            &mut self.fwd.labels,
+            &mut self.bwd.labels,
+            &mut self.fwd.heap,
+            &mut self.bwd.heap,
+        );
+        answered(number)?;
+        Ok(self.path.get(..length).and_then(|walk| ShortestPath::along(walk, weight)))
+    }
+
+    /// Buffers for walks of so many queries of the graph, the path no longer than that: what is too long for it does not depend on graphs
+    /// before. Answers the node count.
+    fn fit(&mut self, graph: &FastGraph, queries: usize) -> usize {
+        let n = graph.get_num_nodes();
+        self.path.resize(queries * n, 0);
+        self.fwd.fit(n, &graph.tables.fwd);
+        self.bwd.fit(n, &graph.tables.bwd);
+        n
+    }
+}
