@@ -34,6 +34,9 @@
 extern "C" {
 #endif
 
+/* A length has 64 bits on both sides of a call. */
+typedef char ratmanoep_needs_64_bits[sizeof(size_t) == 8 ? 1 : -1];
+
 /* ---- Numbers ------------------------------------------------------------------------------------------------------------------ */
 
 #define RATMANOEP_MAX_NODES 1024u

@@ -33,6 +33,31 @@ pub struct Table {
     pub outs: Vec<u32>,
 }
 
+/// Calls a function of the library that reads a hierarchy of n nodes: its columns, then what else it takes.
+macro_rules! over_tables {
+    ($function:ident, $n:expr, $tables:expr $(, $more:expr)* $(,)?) => {{
+        let $crate::Tables { ranks, fwd, bwd } = $tables;
+        $function(
+            $n,
+            ranks,
+            &fwd.starts,
+            &fwd.bases,
+            &fwd.neighbours,
+            &fwd.weights,
+            &fwd.ins,
+            &fwd.outs,
+            &bwd.starts,
+            &bwd.bases,
+            &bwd.neighbours,
+            &bwd.weights,
+            &bwd.ins,
+            &bwd.outs,
+            $($more,)*
+        )
+    }};
+}
+pub(crate) use over_tables;
+
 impl Tables {
     /// Room for a hierarchy of n nodes with so many entries each way.
     pub(crate) fn with_room(n: usize, entries: usize) -> Tables {
@@ -52,23 +77,7 @@ impl Tables {
 
     /// Refusal 20 where a table rule is broken.
     fn check(&self, n: usize) -> Result<(), Error> {
-        let Tables { ranks, fwd, bwd } = self;
-        answered(ratmanoep_check_tables(
-            n,
-            ranks,
-            &fwd.starts,
-            &fwd.bases,
-            &fwd.neighbours,
-            &fwd.weights,
-            &fwd.ins,
-            &fwd.outs,
-            &bwd.starts,
-            &bwd.bases,
-            &bwd.neighbours,
-            &bwd.weights,
-            &bwd.ins,
-            &bwd.outs,
-        ))
+        answered(over_tables!(ratmanoep_check_tables, n, self))
     }
 }
 

@@ -2,7 +2,7 @@
 
 use crate::constants::{NodeId, Weight, MAX_ENDS, MAX_NODES, WEIGHT_ZERO};
 use crate::error::{answered, narrow, Error};
-use crate::fast_graph::{FastGraph, Table};
+use crate::fast_graph::{over_tables, FastGraph, Table};
 use crate::proved::ratmanoep_calc_path;
 use crate::shortest_path::ShortestPath;
 
@@ -74,23 +74,11 @@ impl PathCalculator {
         let (sources, source_offsets) = self::ends(starts)?;
         let (targets, target_offsets) = self::ends(ends)?;
         let n = self.fit(graph, 1);
-        let crate::Tables { ranks, fwd, bwd } = &graph.tables;
         let (mut number, mut weight) = (0, 0);
-        let length = ratmanoep_calc_path(
+        let length = over_tables!(
+            ratmanoep_calc_path,
             n,
-            ranks,
-            &fwd.starts,
-            &fwd.bases,
-            &fwd.neighbours,
-            &fwd.weights,
-            &fwd.ins,
-            &fwd.outs,
-            &bwd.starts,
-            &bwd.bases,
-            &bwd.neighbours,
-            &bwd.weights,
-            &bwd.ins,
-            &bwd.outs,
+            &graph.tables,
             &sources,
             &source_offsets,
             &targets,
