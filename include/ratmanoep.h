@@ -5,7 +5,7 @@
  *
  * The library allocates nothing and keeps nothing between calls: all memory is lent by the caller, so calls on different memory may
  * run at the same time. Of the C library it uses memset alone. Any numbers may be handed in: every call ends, and bad input is met
- * with a numbered refusal (enum ratmanoep_number). What lent memory holds beforehand never matters.
+ * with a numbered refusal (enum ratmanoep_number). What is lent to be written may hold anything beforehand.
  *
  * Stack, as measured: 2 KB for a build and a table check; for a query 400 bytes for each level of entries within entries, which is
  * 0.4 MB at most (a line of 1,024 nodes ranked from one end to the other); 140 KB for the record program.
@@ -85,7 +85,8 @@ static inline const char *ratmanoep_sentence(uint32_t number)
     case RATMANOEP_NOT_ASCENDING: return "links not strictly ascending";
     case RATMANOEP_ORDER_LENGTH: return "order length is not the node count";
     case RATMANOEP_ORDER_NODE: return "order names a node not below the count, or one twice";
-    case RATMANOEP_BUILD_ROOM: return "ranks, starts, a table's columns or scratch too short, or a table's columns of unequal length";
+    case RATMANOEP_BUILD_ROOM:
+        return "ranks below n places, starts below n + 1, a table's columns of unequal length, or scratch below its stated formula";
     case RATMANOEP_POOL_FULL: return "live arcs would exceed the lent pool";
     case RATMANOEP_TABLE_FULL: return "an entry would exceed its table";
     case RATMANOEP_SUM_TOO_LARGE: return "a pair sum exceeds 2^40";

@@ -43,7 +43,7 @@ refusals! {
     NotAscending = 6: "links not strictly ascending",
     OrderLength = 7: "order length is not the node count",
     OrderNode = 8: "order names a node not below the count, or one twice",
-    BuildRoom = 9: "ranks, starts, a table's columns or scratch too short, or a table's columns of unequal length",
+    BuildRoom = 9: "ranks below n places, starts below n + 1, a table's columns of unequal length, or scratch below its stated formula",
     PoolFull = 10: "live arcs would exceed the lent pool",
     TableFull = 11: "an entry would exceed its table",
     SumTooLarge = 12: "a pair sum exceeds 2^40",

@@ -3,7 +3,9 @@
 mod common;
 
 use common::{is_walk, least, prepare_at, told, Link, Random};
-use ratmanoep::{calc_path_multiple_sources_and_targets, create_calculator, FastGraph, PathCalculator, WEIGHT_MAX};
+use ratmanoep::{
+    calc_path_multiple_sources_and_targets, create_calculator, Error, FastGraph, PathCalculator, Refusal, Table, Tables, WEIGHT_MAX,
+};
 
 /// All pairs, or so many targets of each node.
 fn compare(random: &mut Random, calculator: &mut PathCalculator, graph: &FastGraph, links: &[Link], targets: usize) {
@@ -86,4 +88,64 @@ fn the_order_of_a_prepared_graph() {
     let graph = prepare_at(&links, &order, 100).unwrap();
     assert_eq!(graph.get_node_ordering(), order);
     assert_eq!(prepare_at(&links, &graph.get_node_ordering(), 100), Ok(graph));
+}
+
+/// Another number at a random place of a random column, or a column cut short.
+fn damage(random: &mut Random, tables: &mut Tables) {
+    let Tables { ranks, fwd, bwd } = tables;
+    let Table {
+        starts,
+        bases,
+        neighbours,
+        weights,
+        ins,
+        outs,
+    } = if random.below(2) == 0 { fwd } else { bwd };
+    let number = [0, 1, 2, 3, 7, u32::MAX][random.below(6)];
+    let column = match random.below(8) {
+        0 => ranks,
+        1 => starts,
+        2 => bases,
+        3 => neighbours,
+        4 => ins,
+        5 => outs,
+        6 => {
+            if !weights.is_empty() {
+                let at = random.below(weights.len());
+                weights[at] = number as u64;
+            }
+            return;
+        }
+        _ => {
+            weights.pop();
+            return;
+        }
+    };
+    if !column.is_empty() {
+        let at = random.below(column.len());
+        column[at] = number;
+    }
+}
+
+/// Damaged tables are refused with 20, or whatever is asked of them has an answer.
+#[test]
+fn damaged_tables() {
+    let mut random = Random(14);
+    let mut passed = 0;
+    for _ in 0..20_000 {
+        let n = 2 + random.below(7);
+        let links = random.links(n, 2 * n, 5);
+        let mut tables = prepare_at(&links, &random.order(n), 100).unwrap().tables().clone();
+        damage(&mut random, &mut tables);
+        match FastGraph::from_tables(n, tables) {
+            Err(error) => assert_eq!(error, Error::Refused(Refusal::BadTables)),
+            Ok(graph) => {
+                passed += 1;
+                let ends = (random.below(n), random.below(n));
+                let answer = create_calculator(&graph).calc_path(&graph, ends.0, ends.1);
+                assert!(answer.is_ok() || answer == Err(Error::Refused(Refusal::WalkTooLong)));
+            }
+        }
+    }
+    assert!((1_000..19_000).contains(&passed), "{passed}");
 }
