@@ -124,6 +124,24 @@ static void compare(ratmanoep_answer a, const ratmanoep_graph *g, const uint32_t
     }
 }
 
+/* From one node to all, by one call. */
+static void compare_all(const ratmanoep_hierarchy *h, const ratmanoep_graph *g, const ratmanoep_query_scratch *s, const ratmanoep_answers *all, uint32_t source)
+{
+    uint32_t sources[NODES], targets[NODES];
+    ratmanoep_pairs pairs = {NODES, sources, targets};
+    for (uint32_t k = 0; k < NODES; k++) {
+        sources[k] = source;
+        targets[k] = k;
+    }
+    if (ratmanoep_routes(h, pairs, all, s) != RATMANOEP_DONE) {
+        stop("many routes are refused");
+    }
+    for (uint32_t k = 0; k < NODES; k++) {
+        ratmanoep_answer a = {all->numbers[k], all->weights[k], all->lengths[k]};
+        compare(a, g, ratmanoep_walk(all, k), source, k);
+    }
+}
+
 int main(void)
 {
     void *tables;
@@ -136,12 +154,16 @@ int main(void)
     }
     void *memory = lent(ratmanoep_query_scratch_bytes(g.nodes, fwd, bwd));
     ratmanoep_query_scratch scratch = ratmanoep_query_scratch_in(memory, g.nodes, fwd, bwd);
+    void *many = lent(ratmanoep_answers_bytes(g.nodes, NODES));
+    ratmanoep_answers all = ratmanoep_answers_in(many, g.nodes, NODES);
     for (uint32_t source = 0; source < NODES; source++) {
         for (uint32_t target = 0; target < NODES; target++) {
             compare(ratmanoep_route(&h, source, target, &scratch), &g, scratch.path, source, target);
         }
+        compare_all(&h, &g, &scratch, &all, source);
     }
-    printf("%d routes over %zu links weigh the least\n", NODES * NODES, g.links);
+    printf("%d routes over %zu links weigh the least, one by one and from one node to all\n", NODES * NODES, g.links);
+    free(many);
     free(memory);
     free(tables);
     return 0;

@@ -19,6 +19,8 @@ static uint32_t bwd_starts[4], bwd_bases[3], bwd_neighbours[3], bwd_ins[3], bwd_
 static uint64_t fwd_weights[3], bwd_weights[3], weights[6], labels[6], heap[14];
 static uint32_t sources[] = {0}, targets[] = {2}, path[3];
 static uint64_t offsets[] = {0}, fwd_labels[12], bwd_labels[12], fwd_heap[38], bwd_heap[38];
+static uint32_t numbers[1], lengths[1], paths[3];
+static uint64_t path_weights[1];
 static uint8_t input[1], out[20];
 
 #define TABLES                                                                                                              \
@@ -44,6 +46,11 @@ static uint32_t query(const slice *s)
     return number;
 }
 
+static uint32_t queries(const slice *s)
+{
+    return ratmanoep_calc_paths(3, S13(0), S(13), S(14), S(15), S(16), S(17), S(18), S(19), S(20), S(21), S(22));
+}
+
 static uint32_t records(const slice *s)
 {
     return (uint32_t)ratmanoep_answer_records(S(0), S(1)); /* the length of "bad record 0" and its line end */
@@ -52,7 +59,7 @@ static uint32_t records(const slice *s)
 /* The answer with all slices lent, then without each, then without any. */
 static void without_each(const char *name, uint32_t (*call)(const slice *), const slice *lent, size_t count)
 {
-    slice s[22];
+    slice s[23];
     printf("%s:", name);
     for (size_t k = 0; k < count; k++) {
         s[k] = lent[k];
@@ -78,10 +85,13 @@ int main(void)
     const slice checked[] = {TABLES};
     const slice asked[] = {TABLES, SLICE(sources), SLICE(offsets), SLICE(targets), SLICE(offsets), SLICE(path),
                            SLICE(fwd_labels), SLICE(bwd_labels), SLICE(fwd_heap), SLICE(bwd_heap)};
+    const slice many[] = {TABLES, SLICE(sources), SLICE(targets), SLICE(numbers), SLICE(path_weights), SLICE(lengths), SLICE(paths),
+                          SLICE(fwd_labels), SLICE(bwd_labels), SLICE(fwd_heap), SLICE(bwd_heap)};
     const slice read[] = {SLICE(input), SLICE(out)};
     without_each("build", build, built, 22);
     without_each("check", check, checked, 13);
     without_each("query", query, asked, 22);
+    without_each("queries", queries, many, 23);
     without_each("records", records, read, 2);
     return 0;
 }

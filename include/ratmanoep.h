@@ -18,7 +18,7 @@
  *   - What is written overlaps nothing else of the call: no other lent slice, and nothing that is only read. Slices that are only
  *     read may be the same or overlap.
  *   - A slice has below 2^63 bytes.
- *   - A slice of length 0 may have any pointer, NULL too: nothing is read or written through it.
+ *   - A slice of length 0 may have any pointer, NULL too: nothing is read or written through it. (examples/null_slices.c tries each.)
  *   - `number` and `weight` of ratmanoep_calc_path are single numbers and never NULL.
  *   - No other thread writes what is lent before the call returns, or reads what the call writes.
  *
@@ -139,6 +139,12 @@ static inline size_t ratmanoep_query_labels_places(size_t n) { return ratmanoep_
 static inline size_t ratmanoep_query_heap_places(uint64_t entries)                                     /* 2 (entries + 16), u64 */
 {
     return ratmanoep_times(2, ratmanoep_plus(entries, RATMANOEP_MAX_ENDS));
+}
+
+/* Of many routes at once: the paths have n places for each pair. */
+static inline size_t ratmanoep_paths_places(size_t n, size_t pairs)                                    /* n pairs, u32 */
+{
+    return n == 0 ? 0 : ratmanoep_times(n, pairs);
 }
 
 /* ---- The calls ----------------------------------------------------------------------------------------------------------------- */
@@ -287,6 +293,51 @@ size_t ratmanoep_calc_path(
     uint64_t *bwd_heap, size_t bwd_heap_length);
 
 /*
+ * Many routes after one check of the tables and one clearing of the labels: from sources[k] to targets[k], each alone and with offset 0.
+ *
+ *   n, ranks, fwd_.., bwd_..   the hierarchy, as of ratmanoep_calc_path
+ *   sources, targets           the pairs, any number of them, none included
+ *   numbers, weights, lengths  where each pair's answer goes: a place a pair
+ *   paths                      where the walks go: ratmanoep_paths_places(n, pairs), n for each pair
+ *   fwd_labels .. bwd_heap     scratch, as of ratmanoep_calc_path
+ *
+ * Answers 0, or a number for the whole call, of those that are met the lowest; then no lent place has changed:
+ *
+ *   20  the hierarchy breaks a table rule
+ *   21  sources and targets differ in length
+ *   24  numbers, weights or lengths below a place per pair, paths below n places per pair, or scratch below its formula
+ *
+ * After 0 numbers[k] is 0, 22 (a node not below n) or 25 (a walk longer than n: never on what a build made). The walk of a route is the
+ * first lengths[k] places of `paths` from place k n on, and weights[k] is its weight. For "none" and refusals lengths[k] is 0 and weights[k]
+ * RATMANOEP_WEIGHT_MAX. Places beyond a walk, and beyond a place per pair, are left alone. Scratch may hold anything afterwards.
+ */
+uint32_t ratmanoep_calc_paths(
+    size_t n,
+    const uint32_t *ranks, size_t ranks_length,
+    const uint32_t *fwd_starts, size_t fwd_starts_length,
+    const uint32_t *fwd_bases, size_t fwd_bases_length,
+    const uint32_t *fwd_neighbours, size_t fwd_neighbours_length,
+    const uint64_t *fwd_weights, size_t fwd_weights_length,
+    const uint32_t *fwd_ins, size_t fwd_ins_length,
+    const uint32_t *fwd_outs, size_t fwd_outs_length,
+    const uint32_t *bwd_starts, size_t bwd_starts_length,
+    const uint32_t *bwd_bases, size_t bwd_bases_length,
+    const uint32_t *bwd_neighbours, size_t bwd_neighbours_length,
+    const uint64_t *bwd_weights, size_t bwd_weights_length,
+    const uint32_t *bwd_ins, size_t bwd_ins_length,
+    const uint32_t *bwd_outs, size_t bwd_outs_length,
+    const uint32_t *sources, size_t sources_length,
+    const uint32_t *targets, size_t targets_length,
+    uint32_t *numbers, size_t numbers_length,
+    uint64_t *weights, size_t weights_length,
+    uint32_t *lengths, size_t lengths_length,
+    uint32_t *paths, size_t paths_length,
+    uint64_t *fwd_labels, size_t fwd_labels_length,
+    uint64_t *bwd_labels, size_t bwd_labels_length,
+    uint64_t *fwd_heap, size_t fwd_heap_length,
+    uint64_t *bwd_heap, size_t bwd_heap_length);
+
+/*
  * The gateway's record program: commissioning records in, lines of text out.
  *
  * Writes the lines over the front of `out`, as far as there is room, and returns their whole length, also where that is more than
@@ -347,6 +398,19 @@ typedef struct {
     uint64_t weight;
     size_t length;
 } ratmanoep_answer;
+
+/* Pairs of ends for many routes at once. */
+typedef struct {
+    size_t count;
+    const uint32_t *sources, *targets;
+} ratmanoep_pairs;
+
+/* The answers of so many pairs: numbers[k], weights[k], and lengths[k] nodes of the walk from ratmanoep_walk(a, k) on. */
+typedef struct {
+    size_t for_nodes, pairs;
+    uint64_t *weights;
+    uint32_t *numbers, *lengths, *paths;
+} ratmanoep_answers;
 
 /* Used entries of a table that was built. */
 static inline size_t ratmanoep_used(const ratmanoep_hierarchy *h, const ratmanoep_table *t) { return t->starts[h->nodes]; }
@@ -452,6 +516,25 @@ static inline ratmanoep_query_scratch ratmanoep_query_scratch_in(void *memory, s
     return s;
 }
 
+/* Answers of so many pairs. */
+static inline size_t ratmanoep_answers_bytes(size_t nodes, size_t pairs)
+{
+    return ratmanoep_bytes(pairs, ratmanoep_plus(ratmanoep_times(2, pairs), ratmanoep_paths_places(nodes, pairs)));
+}
+
+static inline ratmanoep_answers ratmanoep_answers_in(void *memory, size_t nodes, size_t pairs)
+{
+    unsigned char *next = (unsigned char *)memory;
+    ratmanoep_answers a;
+    a.for_nodes = nodes;
+    a.pairs = pairs;
+    a.weights = ratmanoep_take_wide(&next, pairs);
+    a.numbers = ratmanoep_take_narrow(&next, pairs);
+    a.lengths = ratmanoep_take_narrow(&next, pairs);
+    a.paths = ratmanoep_take_narrow(&next, ratmanoep_paths_places(nodes, pairs));
+    return a;
+}
+
 /* ratmanoep_build_with_order. Scratch for fewer nodes than the graph has is refused with 9. */
 static inline uint32_t ratmanoep_build(
     const ratmanoep_graph *g, uint32_t limit, const ratmanoep_hierarchy *h, const ratmanoep_build_scratch *s)
@@ -484,7 +567,7 @@ static inline uint32_t ratmanoep_build(
         s->heap, ratmanoep_build_heap_places(s->pool));
 }
 
-/* The columns of a hierarchy, as ratmanoep_check_tables and ratmanoep_calc_path take them. */
+/* The columns of a hierarchy, as every call but the build takes them. */
 #define RATMANOEP_COLUMNS(h)                                 \
     (h)->nodes,                                              \
     (h)->ranks, ratmanoep_ranks_places((h)->nodes),          \
@@ -507,7 +590,7 @@ static inline uint32_t ratmanoep_check(const ratmanoep_hierarchy *h)
     return ratmanoep_check_tables(RATMANOEP_COLUMNS(h));
 }
 
-/* The slices of scratch, as ratmanoep_calc_path takes them. */
+/* The slices of scratch, as ratmanoep_calc_path and ratmanoep_calc_paths take them. */
 #define RATMANOEP_QUERY_SCRATCH(s)                                            \
     (s)->fwd_labels, ratmanoep_query_labels_places((s)->for_nodes),           \
     (s)->bwd_labels, ratmanoep_query_labels_places((s)->for_nodes),           \
@@ -544,6 +627,24 @@ static inline ratmanoep_answer ratmanoep_route(
     targets.nodes = &target;
     return ratmanoep_route_between(h, sources, targets, s);
 }
+
+/* ratmanoep_calc_paths. Answers for fewer pairs than are asked are refused with 24. */
+static inline uint32_t ratmanoep_routes(
+    const ratmanoep_hierarchy *h, ratmanoep_pairs pairs, const ratmanoep_answers *a, const ratmanoep_query_scratch *s)
+{
+    return ratmanoep_calc_paths(
+        RATMANOEP_COLUMNS(h),
+        pairs.sources, pairs.count,
+        pairs.targets, pairs.count,
+        a->numbers, a->pairs,
+        a->weights, a->pairs,
+        a->lengths, a->pairs,
+        a->paths, ratmanoep_paths_places(a->for_nodes, a->pairs),
+        RATMANOEP_QUERY_SCRATCH(s));
+}
+
+/* The walk of pair k, of a->lengths[k] nodes, for answers that are for as many nodes as the hierarchy has. */
+static inline const uint32_t *ratmanoep_walk(const ratmanoep_answers *a, size_t k) { return a->paths + k * a->for_nodes; }
 
 #ifdef __cplusplus
 }

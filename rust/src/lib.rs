@@ -34,7 +34,7 @@
 //! - Left out: `prepare` and `prepare_with_params` with `Params` (an order is always given), `FastGraphBuilder`, `FastGraph32` and
 //!   serialisation ([`FastGraph::tables`] and [`FastGraph::from_tables`] have the columns), `InputGraph::thaw`, reading and writing files,
 //!   `FastGraph::new` and what walks along its edges, logging.
-//! - Added: [`Tables`], [`answer_records`].
+//! - Added: [`calc_paths`], [`Tables`], [`answer_records`].
 //!
 //! # What it needs
 //!
@@ -112,6 +112,26 @@ pub fn calc_path_multiple_sources_and_targets(
     target: Vec<(NodeId, Weight)>,
 ) -> Result<Option<ShortestPath>, Error> {
     create_calculator(fast_graph).calc_path_multiple_sources_and_targets(fast_graph, sources, target)
+}
+
+/// The least-weight route of each pair of a source and a target, or none: many routes after one check of the tables.
+///
+/// ```
+/// # use ratmanoep::{calc_paths, prepare_with_order, Error, InputGraph};
+/// # fn main() -> Result<(), Error> {
+/// # let mut graph = InputGraph::new();
+/// # graph.add_edge(0, 1, 2)?;
+/// # graph.add_edge(1, 2, 3)?;
+/// # graph.freeze()?;
+/// # let fast_graph = prepare_with_order(&graph, &[1, 0, 2])?;
+/// let answers = calc_paths(&fast_graph, &[(0, 2), (2, 0), (1, 1), (0, 7)]);
+/// let weights: Vec<_> = answers.into_iter().map(|answer| answer.map(|path| path.map(|p| p.get_weight())).map_err(|e| e.number())).collect();
+/// assert_eq!(weights, [Ok(Some(5)), Ok(None), Ok(Some(0)), Err(Some(22))]);
+/// # Ok(())
+/// # }
+/// ```
+pub fn calc_paths(fast_graph: &FastGraph, pairs: &[(NodeId, NodeId)]) -> Vec<Result<Option<ShortestPath>, Error>> {
+    create_calculator(fast_graph).calc_paths(fast_graph, pairs)
 }
 
 /// A calculator, which keeps its buffers from one query to the next.

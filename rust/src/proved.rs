@@ -107,4 +107,31 @@ proved!(fn ratmanoep_calc_path(
     bwd_heap: &mut [u64],
 ) -> usize);
 
+proved!(fn ratmanoep_calc_paths(
+    n: usize,
+    ranks: &[u32],
+    fwd_starts: &[u32],
+    fwd_bases: &[u32],
+    fwd_neighbours: &[u32],
+    fwd_weights: &[u64],
+    fwd_ins: &[u32],
+    fwd_outs: &[u32],
+    bwd_starts: &[u32],
+    bwd_bases: &[u32],
+    bwd_neighbours: &[u32],
+    bwd_weights: &[u64],
+    bwd_ins: &[u32],
+    bwd_outs: &[u32],
+    sources: &[u32],
+    targets: &[u32],
+    numbers: &mut [u32],
+    weights: &mut [u64],
+    lengths: &mut [u32],
+    paths: &mut [u32],
+    fwd_labels: &mut [u64],
+    bwd_labels: &mut [u64],
+    fwd_heap: &mut [u64],
+    bwd_heap: &mut [u64],
+) -> u32);
+
 proved!(fn ratmanoep_answer_records(input: &[u8], out: &mut [u8],) -> usize);

@@ -2,10 +2,8 @@
 
 mod common;
 
-use common::{case_l, graph, number, prepare, prepare_at, Link, L};
-use ratmanoep::{
-    calc_path, calc_path_multiple_sources_and_targets, prepare_with_order, Error, FastGraph, InputGraph, Refusal, Table, Tables,
-};
+use common::{case_l, graph, number, prepare, prepare_at, round_trip, Link, L};
+use ratmanoep::{calc_path, calc_path_multiple_sources_and_targets, prepare_with_order, Error, FastGraph, InputGraph, Refusal, Tables};
 
 #[test]
 fn every_number_has_its_refusal_and_sentence() {
@@ -138,34 +136,7 @@ fn longer_columns_are_cut_to_what_is_used() {
     assert_eq!(FastGraph::from_tables(3, tables), Ok(case_l()));
 }
 
-/// Tables that pass the check and that no build made: their walk from 2 to 3 is 2, 0, 1, 0, 3.
 #[test]
 fn a_walk_longer_than_the_node_count() {
-    let none = u32::MAX;
-    let fwd = Table {
-        starts: vec![0, 3, 4, 5, 5],
-        bases: vec![0, 0, 0, 1, 2],
-        neighbours: vec![1, 2, 3, 3, 3],
-        weights: vec![1, 9, 1, 2, 4],
-        ins: vec![none, none, none, 0, 2],
-        outs: vec![none, none, none, 2, 3],
-    };
-    let bwd = Table {
-        starts: vec![0, 2, 3, 3, 3],
-        bases: vec![0, 0, 1],
-        neighbours: vec![1, 2, 2],
-        weights: vec![1, 1, 2],
-        ins: vec![none, none, 1],
-        outs: vec![none, none, 0],
-    };
-    let graph = FastGraph::from_tables(
-        4,
-        Tables {
-            ranks: vec![0, 1, 2, 3],
-            fwd,
-            bwd,
-        },
-    )
-    .unwrap();
-    assert_eq!(number(calc_path(&graph, 2, 3)), Some(25));
+    assert_eq!(number(calc_path(&round_trip(), 2, 3)), Some(25));
 }

@@ -1,7 +1,7 @@
 //! What several tests use.
 #![allow(dead_code)]
 
-use ratmanoep::{Error, FastGraph, InputGraph, NodeId, ParamsWithOrder, ShortestPath, Weight};
+use ratmanoep::{Error, FastGraph, InputGraph, NodeId, ParamsWithOrder, ShortestPath, Table, Tables, Weight};
 
 pub type Link = (NodeId, NodeId, Weight);
 
@@ -28,6 +28,36 @@ pub const L: [Link; 2] = [(0, 1, 2), (1, 2, 3)];
 
 pub fn case_l() -> FastGraph {
     prepare(&L, &[1, 0, 2]).unwrap()
+}
+
+/// Tables that pass the check and that no build made: their walk from 2 to 3 is 2, 0, 1, 0, 3.
+pub fn round_trip() -> FastGraph {
+    let none = u32::MAX;
+    let fwd = Table {
+        starts: vec![0, 3, 4, 5, 5],
+        bases: vec![0, 0, 0, 1, 2],
+        neighbours: vec![1, 2, 3, 3, 3],
+        weights: vec![1, 9, 1, 2, 4],
+        ins: vec![none, none, none, 0, 2],
+        outs: vec![none, none, none, 2, 3],
+    };
+    let bwd = Table {
+        starts: vec![0, 2, 3, 3, 3],
+        bases: vec![0, 0, 1],
+        neighbours: vec![1, 2, 2],
+        weights: vec![1, 1, 2],
+        ins: vec![none, none, 1],
+        outs: vec![none, none, 0],
+    };
+    FastGraph::from_tables(
+        4,
+        Tables {
+            ranks: vec![0, 1, 2, 3],
+            fwd,
+            bwd,
+        },
+    )
+    .unwrap()
 }
 
 /// Weight and nodes.
