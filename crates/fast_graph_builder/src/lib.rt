@@ -184,8 +184,7 @@ fn build_checked(
 }
 
 // Builds a hierarchy in the given order. Whatever is handed in, the answer is a refusal's number, or 0 and a hierarchy.
-#[no_mangle]
-pub extern "C" fn build_with_order(
+pub fn build_with_order(
     n: usize,
     tails: &[u32],
     heads: &[u32],

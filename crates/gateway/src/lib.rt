@@ -389,8 +389,7 @@ fn gather_all(input: &[u8], out: &mut [u8]) -> usize
 }
 
 // Writes the program's lines into the front of what is lent, as far as there is room, and returns their length.
-#[no_mangle]
-pub extern "C" fn answer_records(input: &[u8], out: &mut [u8]) -> usize
+pub fn answer_records(input: &[u8], out: &mut [u8]) -> usize
     ensures { λ r. ⌜ Wrote (now (out .entry)) 0 (program (now (input .entry))) r (now (out .exit)) ⌝ }
 {
     if 16384 < input.len() {

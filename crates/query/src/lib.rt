@@ -387,8 +387,7 @@ fn calc_path(
 }
 
 // The query, its walk left in the front of the path; returns how many places that is. Nothing is asked of the caller.
-#[no_mangle]
-pub extern "C" fn fill_path(
+pub fn fill_path(
     n: usize,
     ranks: &[u32],
     fs: &[u32],

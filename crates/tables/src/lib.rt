@@ -319,8 +319,7 @@ fn entries_pass(
 }
 
 // The table check: 20 where a table rule is broken, or 0. Any numbers in columns of any lengths may be handed in.
-#[no_mangle]
-pub extern "C" fn check_tables(
+pub fn check_tables(
     n: usize,
     ranks: &[u32],
     fwd_starts: &[u32],
