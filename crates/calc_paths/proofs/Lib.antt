@@ -2,3 +2,4 @@ pub mod Rows
 pub mod Pairs
 pub mod Going
 pub mod Outcome
+pub mod Each

@@ -16,6 +16,8 @@ use Rattle.routes.proofs.ThirdDemand.{third-demand}
 use Rattle.fast_graph_builder.proofs.Outcome as build-outcome
 use Rattle.query.specs.declared.Answer.{Answer}
 use Rattle.query.proofs.Outcome as query-outcome
+use Rattle.calc_paths.proofs.Outcome as many-outcome
+use Rattle.calc_paths.proofs.Each.{each-pair}
 use Rattle.calls.specs.Calls.{Asked, ToldNone, ToldWalk, Calls}
 
 module _ (c : BuildCall) (r : ℕ) (h : Hierarchy) (q : QueryCall) (a : Answer) (path : List ℕ) (o : Asked c r h q a path) where
@@ -56,8 +58,10 @@ pub calls : Calls
 calls =
     record {
       third-demand = told;
+      each-pair = each-pair;
       one-build = build-outcome.one-outcome;
       one-check = λ n h r s p q. p ∙ sym q;
       one-query = query-outcome.one-outcome;
+      one-many = many-outcome.one-outcome;
       one-record-answer = λ input out r s out′ out″ p q. (p .end ∙ sym (q .end), p .is ∙ sym (q .is));
     }

@@ -1,5 +1,5 @@
--- The third demand and the pins of document 01, of the compiled calls: of whatever `build_with_order`, `check_tables`, `fill_path` and
--- `answer_records` may leave by their contracts. (routes/specs has the third demand of the definitions.)
+-- The third demand and the pins of document 01, of the compiled calls: of whatever `build_with_order`, `check_tables`, `fill_path`, `calc_paths`
+-- and `answer_records` may leave by their contracts. (routes/specs has the third demand of the definitions.)
 use mathlib.Core.List.{List}
 use mathlib.Core.Logic.{_⊎_}
 use mathlib.Core.Path.{_≡_}
@@ -16,6 +16,8 @@ use Rattle.text.specs.Wrote.{Wrote}
 use Rattle.fast_graph_builder.specs.Outcome as build
 use Rattle.query.specs.declared.Answer.{Answer}
 use Rattle.query.specs.Outcome as query
+use Rattle.calc_paths.specs.Many.{Columns, PathsCall}
+use Rattle.calc_paths.specs.Outcome as many
 
 -- A build left the number 0 and the tables h; an accepted query over these tables, in columns of any lengths, left an answer and a path.
 pub record Asked (c : BuildCall) (r : ℕ) (h : Hierarchy) (q : QueryCall) (a : Answer) (path : List ℕ) : Type 0 where
@@ -45,8 +47,11 @@ pub record ToldWalk (ls : List Link) (q : QueryCall) (a : Answer) (path : List �
 pub record Calls : Type 0 where
   pub third-demand : (c : BuildCall) (r : ℕ) (h : Hierarchy) (q : QueryCall) (a : Answer) (path : List ℕ) → Asked c r h q a path →
       ToldNone (linkList (c .links)) q a path ⊎ ToldWalk (linkList (c .links)) q a path
+  -- what many routes in one call leave of a pair is what its single query may leave
+  pub each-pair : (c : PathsCall) (r : ℕ) (after : Columns) → many.Outcome c r after → r ≡ 0 → many.EachPair c after
   -- any two outcomes coincide
   pub one-build : (c : BuildCall) (r s : ℕ) (h k : Hierarchy) → build.Outcome c r h → build.Outcome c s k → build.Same r s h k
   pub one-check : (n : ℕ) (h : Hierarchy) (r s : ℕ) → r ≡ check-refusal n h → s ≡ check-refusal n h → r ≡ s
   pub one-query : (q : QueryCall) (a b : Answer) (path path′ : List ℕ) → query.Outcome q a path → query.Outcome q b path′ → query.Same a b path path′
+  pub one-many : (c : PathsCall) (r s : ℕ) (x y : Columns) → many.Outcome c r x → many.Outcome c s y → many.Same r s x y
   pub one-record-answer : (input out : List ℕ) (r s : ℕ) (out′ out″ : List ℕ) → Wrote out 0 (program input) r out′ → Wrote out 0 (program input) s out″ → (r ≡ s) × (out′ ≡ out″)
