@@ -4,11 +4,10 @@ use Prim.Native.Nat.{ℕ, _+_, _*_, _^_, _<_, _≤_}
 use lib.ListN.{length}
 use Rattle.rules.specs.Lists.{flat-map}
 use Rattle.rules.specs.Columns.{Hierarchy, Side, forward, backward}
-use Rattle.rules.specs.TableRules.{TableRules}
 use Rattle.rules.specs.Unpack.{unpacked}
 use Rattle.rules.specs.Query.{End, Half, climb, root}
 use Rattle.query_laws.specs.Sound.{Sound}
-use Rattle.unpacking.specs.Written.{Put}
+use Rattle.unpacking.specs.Written.{Shown, Put}
 use Rattle.halves.specs.Labels.{half}
 
 -- the nodes of a side's half of the walk from v on
@@ -25,25 +24,36 @@ pub record Labelled (n : ℕ) (h : Hierarchy) (s : Side) (labels : List ℕ) (ba
   pub b : ℕ
   pub sound : Sound n h s es floor b (half n base labels heap len)
 
-pub record Climbing (n : ℕ) (h : Hierarchy) (s : Side) (labels : List ℕ) (base v at limit : ℕ) : Type 0 where
-  pub rules : TableRules n h
+-- in tables of which g is shown, labels that lead up from v
+pub record Ascent (n : ℕ) (h g : Hierarchy) (s : Side) (labels : List ℕ) (base v : ℕ) : Type 0 where
+  pub tables : Shown n h g
   pub below : v < n
-  pub room : 4 * n ≤ length labels
   pub labelled : Labelled n h s labels base
+
+pub record Climbing (g : Hierarchy) (s : Side) (labels : List ℕ) (base v at limit : ℕ) : Type 0 where
+  pub n : ℕ
+  pub h : Hierarchy
+  pub ascent : Ascent n h g s labels base v
+  pub room : 4 * n ≤ length labels
   pub fits : at + limit < 2 ^ 64
 
-pub record Climbed (n : ℕ) (h : Hierarchy) (s : Side) (labels : List ℕ) (base v at limit r : ℕ) (path path′ : List ℕ) : Type 0 where
-  pub put : (l : Labelled n h s labels base) → Put (half-walk n h s (half n base labels (l .heap) (l .len)) v) at limit r path path′
+-- whichever tables they are, and whatever search
+pub record Climbed (g : Hierarchy) (s : Side) (labels : List ℕ) (base v at limit r : ℕ) (path path′ : List ℕ) : Type 0 where
+  pub put : {n : ℕ} {h : Hierarchy} (a : Ascent n h g s labels base v) →
+      Put (half-walk n h s (half n base labels (a .labelled .heap) (a .labelled .len)) v) at limit r path path′
 
-pub record Extracting (n : ℕ) (h : Hierarchy) (fl bl : List ℕ) (base v limit : ℕ) : Type 0 where
-  pub rules : TableRules n h
-  pub below : v < n
+pub record Extracting (g : Hierarchy) (fl bl : List ℕ) (base v limit : ℕ) : Type 0 where
+  pub n : ℕ
+  pub h : Hierarchy
+  pub fwd : Ascent n h g forward fl base v
+  pub bwd : Ascent n h g backward bl base v
   pub fwd-room : 4 * n ≤ length fl
   pub bwd-room : 4 * n ≤ length bl
-  pub fwd : Labelled n h forward fl base
-  pub bwd : Labelled n h backward bl base
   pub fits : limit < 2 ^ 64
 
-pub record Extracted (n : ℕ) (h : Hierarchy) (fl bl : List ℕ) (base v limit r : ℕ) (path path′ : List ℕ) : Type 0 where
-  pub put : (f : Labelled n h forward fl base) (b : Labelled n h backward bl base) →
-      Put (half-walk n h forward (half n base fl (f .heap) (f .len)) v ++ half-walk n h backward (half n base bl (b .heap) (b .len)) v) 0 limit r path path′
+pub record Extracted (g : Hierarchy) (fl bl : List ℕ) (base v limit r : ℕ) (path path′ : List ℕ) : Type 0 where
+  pub put : {n : ℕ} {h : Hierarchy} (f : Ascent n h g forward fl base v) (b : Ascent n h g backward bl base v) →
+      Put
+      (half-walk n h forward (half n base fl (f .labelled .heap) (f .labelled .len)) v ++
+      half-walk n h backward (half n base bl (b .labelled .heap) (b .labelled .len)) v)
+      0 limit r path path′

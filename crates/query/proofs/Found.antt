@@ -9,7 +9,7 @@ use lib.Dec.{ltb}
 use lib.ListN.{length}
 use borrow.Author.Tests.{ltb-false, eq-eqb, ne-eqb}
 use Rattle.rules.specs.Numbers.{maxEnds, noWeight, invalid}
-use Rattle.rules.specs.Columns.{Hierarchy, forward, backward, table}
+use Rattle.rules.specs.Columns.{Hierarchy, Side, forward, backward, table}
 use Rattle.rules.specs.TableRules.{used}
 use Rattle.rules.specs.Refusals.{QueryCall, short, query-scratch, query-refusal}
 use Rattle.rules.specs.Query.{endList, Best, Halves, searched, walk, query}
@@ -25,6 +25,12 @@ use Rattle.paths.specs.Climbs.{half-walk, Labelled}
 use Rattle.query.specs.declared.Answer.{Answer}
 use Rattle.query.specs.Answers.{answer, Tells, found, Handing, HandedBack, Routing, Routed}
 use Rattle.query.proofs.Handing.{tells-none, tells-found}
+
+-- no number of an entry is the mark, on either side
+either-few : (n : ℕ) (h : Hierarchy) → used n (h .forward) ≤ invalid → used n (h .backward) ≤ invalid → (s : Side) → used n (table h s) ≤ invalid
+unfolding table
+either-few n h f b forward = f
+either-few n h f b backward = b
 
 -- what row 24 asks of scratch, by its lengths
 module _ (n : ℕ) (h : Hierarchy) (kf kb jf jb : ℕ) where
@@ -113,16 +119,17 @@ module _ (n : ℕ) (h : Hierarchy) (sources so targets to path fl bl fh bh : Lis
         below : best .node < n
         below = elim (both .meets .real) [ inl none ↦ absurd (some (ap (λ b. b .node) none)) | inr met ↦ met .node-below ]
 
-        pub handing : length fl′ ≡ length fl → length bl′ ≡ length bl → Handing n h fl′ bl′ base (best .node)
-        handing f b =
+        pub handing : used n (h .forward) ≤ invalid → used n (h .backward) ≤ invalid → length fl′ ≡ length fl → length bl′ ≡ length bl →
+            Handing n h fl′ bl′ base (best .node)
+        handing few-fwd few-bwd f b =
             record {
               rules = a .rules;
+              few = either-few n h few-fwd few-bwd;
               below = below;
               fwd-room = omega (arith, searching .fwd-labels, f);
               bwd-room = omega (arith, searching .bwd-labels, b);
               fwd = fwd;
               bwd = bwd;
-              fits = omega arith;
             }
 
         pub walk-found : (x : Answer) (path′ : List ℕ) → HandedBack n h fl′ bl′ base (best .node) (best .sum) x path path′ → Routed c x path′ fl′ bl′ base

@@ -7,13 +7,13 @@ use lib.ListN.{length, take, drop, length-take}
 use lib.Seq.{take-all, take-append-seam}
 use Rattle.rules.specs.Numbers.{noWeight}
 use Rattle.rules.specs.Lists.{over}
-use Rattle.rules.specs.Columns.{Hierarchy}
+use Rattle.rules.specs.Columns.{Hierarchy, Side, forward, backward, table}
 use Rattle.rules.specs.Refusals.{QueryCall, query-refusal}
 use Rattle.rules.specs.Query.{Answered, no-route, handed-back, query}
 use Rattle.rules.proofs.Prefixes.{written-nowhere, written-over}
 use Rattle.query_laws.proofs.Answers.{accepted-query, refused-query, handed-fits, handed-long}
-use Rattle.unpacking.specs.Written.{Put}
-use Rattle.paths.specs.Climbs.{Extracting}
+use Rattle.unpacking.specs.Written.{shown, tails, Shown, Put}
+use Rattle.paths.specs.Climbs.{Labelled, Ascent, Extracting}
 use Rattle.query.specs.declared.Answer.{Answer}
 use Rattle.query.specs.Answers.{answer, told, Tells, Hands, found, Handing}
 
@@ -71,7 +71,34 @@ module _ (c : QueryCall) (sum : ℕ) (w path : List ℕ) (e : c .path ≡ path) 
         walked : List ℕ → Answered
         walked t = record { number = 0; weight = sum; walk = t; path = over (c .path) w }
 
--- for any limit
-pub extracting : (n : ℕ) (h : Hierarchy) (fl bl : List ℕ) (base v : ℕ) → Handing n h fl bl base v → (limit : ℕ) → limit < 2 ^ 64 → Extracting n h fl bl base v limit
-extracting n h fl bl base v p limit fits =
-    record { rules = p .rules; below = p .below; fwd-room = p .fwd-room; bwd-room = p .bwd-room; fwd = p .fwd; bwd = p .bwd; fits = fits }
+-- the columns that unpacking reads
+abbrev pub columns-of : Hierarchy → Hierarchy
+columns-of h =
+    shown (h .forward .bases) (h .forward .in-numbers) (h .forward .out-numbers) (h .backward .neighbours) (h .backward .in-numbers)
+    (h .backward .out-numbers)
+
+-- What the walk is read from, for any limit.
+module _ {n : ℕ} {h : Hierarchy} {fl bl : List ℕ} {base v : ℕ} (p : Handing n h fl bl base v) where
+  pub tables-shown : Shown n h (columns-of h)
+  unfolding tails table
+  tables-shown =
+      record { rules = p .rules; few = p .few; tails-are = same-tails; in-numbers-are = same-in; out-numbers-are = same-out }
+    where
+      same-tails : (s : Side) → tails h s ≡ tails (columns-of h) s
+      same-tails forward = refl
+      same-tails backward = refl
+
+      same-in : (s : Side) → table h s .in-numbers ≡ table (columns-of h) s .in-numbers
+      same-in forward = refl
+      same-in backward = refl
+
+      same-out : (s : Side) → table h s .out-numbers ≡ table (columns-of h) s .out-numbers
+      same-out forward = refl
+      same-out backward = refl
+
+  abbrev pub ascent : {s : Side} {labels : List ℕ} → Labelled n h s labels base → Ascent n h (columns-of h) s labels base v
+  ascent l = record { tables = tables-shown; below = p .below; labelled = l }
+
+  pub extracting : (limit : ℕ) → limit < 2 ^ 64 → Extracting (columns-of h) fl bl base v limit
+  extracting limit fits =
+      record { n = n; h = h; fwd = ascent (p .fwd); bwd = ascent (p .bwd); fwd-room = p .fwd-room; bwd-room = p .bwd-room; fits = fits }

@@ -1,14 +1,16 @@
 -- What a query leaves, beside the paper's answer.
 use mathlib.Core.List.{List, _++_}
 use mathlib.Core.Path.{_≡_}
-use Prim.Native.Nat.{ℕ, _+_, _^_, _<_}
+use Prim.Native.Nat.{ℕ, _+_, _*_, _^_, _<_, _≤_}
 use lib.ListN.{length, take}
-use Rattle.rules.specs.Columns.{Hierarchy, forward, backward}
+use Rattle.rules.specs.Numbers.{invalid}
+use Rattle.rules.specs.Columns.{Hierarchy, Side, forward, backward, table}
+use Rattle.rules.specs.TableRules.{used, TableRules}
 use Rattle.rules.specs.Refusals.{QueryCall}
 use Rattle.rules.specs.Query.{Answered, searched, route, handed-back}
 use Rattle.query_laws.specs.Accepted.{Accepted}
 use Rattle.halves.specs.Labels.{Before, half}
-use Rattle.paths.specs.Climbs.{half-walk, Labelled, Extracting}
+use Rattle.paths.specs.Climbs.{half-walk, Labelled}
 use Rattle.query.specs.declared.Answer.{Answer}
 
 abbrev pub answer : ℕ → ℕ → ℕ → Answer
@@ -32,9 +34,15 @@ pub record Hands (a : Answered) (part : List ℕ) (number weight : ℕ) : Type 0
 abbrev pub found : QueryCall → Answered
 found c = route c (searched c)
 
--- labels of both sides that lead from a meeting node
-abbrev pub Handing : ℕ → Hierarchy → List ℕ → List ℕ → ℕ → ℕ → Type 0
-Handing n h fl bl base v = Extracting n h fl bl base v 0
+-- labels of both sides that lead from a meeting node, in tables with no mark for an entry's number
+pub record Handing (n : ℕ) (h : Hierarchy) (fl bl : List ℕ) (base v : ℕ) : Type 0 where
+  pub rules : TableRules n h
+  pub few : (s : Side) → used n (table h s) ≤ invalid
+  pub below : v < n
+  pub fwd-room : 4 * n ≤ length fl
+  pub bwd-room : 4 * n ≤ length bl
+  pub fwd : Labelled n h forward fl base
+  pub bwd : Labelled n h backward bl base
 
 pub record HandedBack (n : ℕ) (h : Hierarchy) (fl bl : List ℕ) (base v sum : ℕ) (r : Answer) (path path′ : List ℕ) : Type 0 where
   pub tells : (f : Labelled n h forward fl base) (b : Labelled n h backward bl base) (c : QueryCall) → c .path ≡ path →

@@ -152,18 +152,10 @@ fn hand_back(
 {
     let room = path.len();
     let count = paths::extract_nodes(
-        n,
-        ranks,
-        fs,
         fb,
-        fm,
-        fw,
         fi,
         fo,
-        bs,
-        bb,
         bm,
-        bw,
         bi,
         bo,
         fl,
@@ -180,28 +172,7 @@ fn hand_back(
             count: 0,
         };
     }
-    let written = paths::extract_nodes(
-        n,
-        ranks,
-        fs,
-        fb,
-        fm,
-        fw,
-        fi,
-        fo,
-        bs,
-        bb,
-        bm,
-        bw,
-        bi,
-        bo,
-        fl,
-        bl,
-        base,
-        v,
-        path,
-        count,
-    );
+    let written = paths::extract_nodes(fb, fi, fo, bm, bi, bo, fl, bl, base, v, path, count);
     Answer {
         number: 0,
         weight: sum,

@@ -1,12 +1,8 @@
--- Climbing forward: the measure is the rank of the node, which falls from a node to its parent.
-use mathlib.Core.Path.{_∙_}
+-- Climbing forward: the measure is how many entries lead up to the node, one fewer at its parent.
 use native.Mathlib.Omega.{arith}
 use borrow.Author.Needs.{needs}
-use Rattle.rules.specs.Columns.{rank, table, begin}
-use Rattle.rules.specs.TableRules.{used}
-use Rattle.tables.specs.Lent.{columns, lent}
 use Rattle.unpacking.proofs.Opened.{first-within, rest-fits, both-within, put-both}
-use Rattle.paths.proofs.Chains.{loaded-via, loaded-under, loaded-climbing, forward-loaded, forward-ends, put-nothing}
+use Rattle.paths.proofs.Chains.{steps, from-parent, fewer, along-used, uncut, forward-none, forward-on, put-nothing}
 use Prim.Native.Nat.{ℕ, _<_}
 use borrow.Fn.Kinds.{In}
 use borrow.Fn.PlainCycle.{Measures, is, falls, and}
@@ -18,15 +14,15 @@ use Rattle.unpacking.proofs.unpack_fwd.Reads as unpack-fwd-reads
 use Rattle.paths.proofs.+climb_fwd.{statement}
 use Rattle.paths.proofs.+climb_fwd.Tie.{close}
 
-abbrev μ-climb-fwd : Measures 15 climb-fwd-kinds.ps ℕ
-μ-climb-fwd κs a = rank (lent (a .1 .0 .now) (columns (a .1 .1 .0 .now) (a .1 .1 .1 .0 .now) (a .1 .1 .1 .1 .0 .now) (a .1 .1 .1 .1 .1 .0 .now) (a .1 .1 .1 .1 .1 .1 .0 .now) (a .1 .1 .1 .1 .1 .1 .1 .0 .now)) (columns (a .1 .1 .1 .1 .1 .1 .1 .1 .0 .now) (a .1 .1 .1 .1 .1 .1 .1 .1 .1 .0 .now) (a .1 .1 .1 .1 .1 .1 .1 .1 .1 .1 .0 .now) (a .1 .1 .1 .1 .1 .1 .1 .1 .1 .1 .1 .0 .now) (a .1 .1 .1 .1 .1 .1 .1 .1 .1 .1 .1 .1 .0 .now) (a .1 .1 .1 .1 .1 .1 .1 .1 .1 .1 .1 .1 .1 .0 .now))) (a .1 .1 .1 .1 .1 .1 .1 .1 .1 .1 .1 .1 .1 .1 .1 .1 .0)
+abbrev μ-climb-fwd : Measures 8 climb-fwd-kinds.ps ℕ
+μ-climb-fwd κs a = steps (a .1 .1 .1 .1 .1 .1 .0 .now) (a .1 .1 .1 .1 .1 .1 .1 .0) (a .1 .1 .1 .1 .1 .1 .1 .1 .0)
 
-abbrev climb-fwd-at : ℕ → In 15 climb-fwd-kinds.ps
-climb-fwd-at t = and 15 climb-fwd-kinds.ps (is 15 climb-fwd-kinds.ps μ-climb-fwd t) climb-fwd.Pre
+abbrev climb-fwd-at : ℕ → In 8 climb-fwd-kinds.ps
+climb-fwd-at t = and 8 climb-fwd-kinds.ps (is 8 climb-fwd-kinds.ps μ-climb-fwd t) climb-fwd.Pre
 
-abbrev climb-fwd-below : ℕ → In 15 climb-fwd-kinds.ps
+abbrev climb-fwd-below : ℕ → In 8 climb-fwd-kinds.ps
 climb-fwd-below t =
-    and 15 climb-fwd-kinds.ps (falls 15 climb-fwd-kinds.ps _<_ μ-climb-fwd t) climb-fwd.Pre
+    and 8 climb-fwd-kinds.ps (falls 8 climb-fwd-kinds.ps _<_ μ-climb-fwd t) climb-fwd.Pre
 
 -- What the calls in the body ask and promise, below a measure of `t`.
 abbrev climb-fwd-claims : ℕ → climb-fwd-lts.Claims
@@ -40,70 +36,84 @@ climb-fwd-claims t = (
 )
 
 -- Back from a place of the body to an earlier one.
-abbrev shared-known7→shared-known2 : (t : ℕ) → climb-fwd-lts.After-shared-slice-known7 (climb-fwd-claims t) (climb-fwd-at t) climb-fwd.Post → climb-fwd-lts.After-shared-slice-known2 (climb-fwd-claims t) (climb-fwd-at t) climb-fwd.Post
-shared-known7→shared-known2 t c = c .before .before .before .before .before
+abbrev known7→start : (t : ℕ) → climb-fwd-lts.After-shared-slice-known7 (climb-fwd-claims t) (climb-fwd-at t) climb-fwd.Post → climb-fwd-lts.Start (climb-fwd-claims t) (climb-fwd-at t) climb-fwd.Post
+known7→start t c = c .before .before .before .before .before .before .before
 
-abbrev shared-known14→shared-known2 : (t : ℕ) → climb-fwd-lts.After-shared-slice-known14 (climb-fwd-claims t) (climb-fwd-at t) climb-fwd.Post → climb-fwd-lts.After-shared-slice-known2 (climb-fwd-claims t) (climb-fwd-at t) climb-fwd.Post
-shared-known14→shared-known2 t c = shared-known7→shared-known2 t (c .before .before .before .before .before .before .before)
+abbrev load→start : (t : ℕ) → climb-fwd-lts.After-load (climb-fwd-claims t) (climb-fwd-at t) climb-fwd.Post → climb-fwd-lts.Start (climb-fwd-claims t) (climb-fwd-at t) climb-fwd.Post
+load→start t c = known7→start t (c .before .before)
 
-abbrev else1→start : (t : ℕ) → climb-fwd-lts.Else1 (climb-fwd-claims t) (climb-fwd-at t) climb-fwd.Post → climb-fwd-lts.Start (climb-fwd-claims t) (climb-fwd-at t) climb-fwd.Post
-else1→start t c = (shared-known14→shared-known2 t (c .before .before .before)) .before .before
+abbrev climb-fwd→else1 : (t : ℕ) → climb-fwd-lts.After-climb-fwd (climb-fwd-claims t) (climb-fwd-at t) climb-fwd.Post → climb-fwd-lts.Else1 (climb-fwd-claims t) (climb-fwd-at t) climb-fwd.Post
+climb-fwd→else1 t c = c .before .before
 
-abbrev unpack-fwd→else1 : (t : ℕ) → climb-fwd-lts.After-unpack-fwd (climb-fwd-claims t) (climb-fwd-at t) climb-fwd.Post → climb-fwd-lts.Else1 (climb-fwd-claims t) (climb-fwd-at t) climb-fwd.Post
-unpack-fwd→else1 t c = c .before .before .before .before .before .before
-
-abbrev unpack-fwd→start : (t : ℕ) → climb-fwd-lts.After-unpack-fwd (climb-fwd-claims t) (climb-fwd-at t) climb-fwd.Post → climb-fwd-lts.Start (climb-fwd-claims t) (climb-fwd-at t) climb-fwd.Post
-unpack-fwd→start t c = else1→start t (unpack-fwd→else1 t c)
+abbrev unpack-fwd→climb-fwd : (t : ℕ) → climb-fwd-lts.After-unpack-fwd (climb-fwd-claims t) (climb-fwd-at t) climb-fwd.Post → climb-fwd-lts.After-climb-fwd (climb-fwd-claims t) (climb-fwd-at t) climb-fwd.Post
+unpack-fwd→climb-fwd t c = c .before .before .before .before
 
 climb-fwd-load-requires : (t : ℕ) → climb-fwd-lts.Need-load-requires (climb-fwd-claims t) (climb-fwd-at t) climb-fwd.Post
 climb-fwd-load-requires t c κs =
-    let start = (shared-known14→shared-known2 t (c .before)) .before .before in
-    omega (arith, start .pre .1 .below, start .pre .1 .room)
+    let p = (known7→start t (c .before)) .pre .1 in
+    omega (arith, p .ascent .below, p .room)
 
 climb-fwd-cast-if1 : (t : ℕ) → climb-fwd-lts.Need-cast-if1 (climb-fwd-claims t) (climb-fwd-at t) climb-fwd.Post
 climb-fwd-cast-if1 t c = search needs
 
 climb-fwd-returns : (t : ℕ) → climb-fwd-lts.Need-returns (climb-fwd-claims t) (climb-fwd-at t) climb-fwd.Post
-climb-fwd-returns t c = record { put = λ l. rw (forward-ends _ _ _ _ _ _ _ _ (c .before .load .ensures) ((shared-known14→shared-known2 t (c .before .before .before)) .before .before .pre .1) l (c .if1 .taken)) (put-nothing _ _ _) }
+climb-fwd-returns t c = record { put = λ a. rw (forward-none a _ (c .before .load .ensures) (c .if1 .taken)) (put-nothing _ _ _) }
 
 climb-fwd-climb-fwd-requires : (t : ℕ) → climb-fwd-lts.Need-climb-fwd-requires (climb-fwd-claims t) (climb-fwd-at t) climb-fwd.Post
 climb-fwd-climb-fwd-requires t c κs =
-    let start = else1→start t (c .before) in
-    (rw (← start .pre .0) (loaded-under _ _ _ _ _ _ _ _ (start .pre .1) _ (c .before .before .load .ensures) (c .before .if1 .left)), loaded-climbing _ _ _ _ _ _ _ _ (start .pre .1) _ (c .before .before .load .ensures) (c .before .if1 .left) _ _ (start .pre .1 .fits))
+    let start = load→start t (c .before .before) in
+    let p = start .pre .1 in
+    let is = c .before .before .load .ensures in
+    let some = c .before .if1 .left in
+    (rw (← start .pre .0) (fewer (p .ascent) _ is some), record { n = p .n; h = p .h; ascent = from-parent (p .ascent) _ is some; room = p .room; fits = p .fits })
 
 climb-fwd-cast-unpack-fwd : (t : ℕ) → climb-fwd-lts.Need-cast-unpack-fwd (climb-fwd-claims t) (climb-fwd-at t) climb-fwd.Post
-unfolding used begin table
 climb-fwd-cast-unpack-fwd t c =
-    let start = else1→start t (c .before .before .before .before) in
-    omega (arith, loaded-via _ _ _ _ _ _ _ _ (start .pre .1) _ (c .before .before .before .before .before .load .ensures) (c .before .before .before .before .if1 .left) .below, (shared-known14→shared-known2 t (c .before .before .before .before .before .before .before)) .shared-slice-known2 .given (start .args .n))
+    let else1 = climb-fwd→else1 t (c .before .before) in
+    omega (arith, uncut ((load→start t (else1 .before)) .pre .1 .ascent) _ (else1 .before .load .ensures) (else1 .if1 .left))
 
 climb-fwd-add-unpack-fwd : (t : ℕ) → climb-fwd-lts.Need-add-unpack-fwd (climb-fwd-claims t) (climb-fwd-at t) climb-fwd.Post
 climb-fwd-add-unpack-fwd t c =
-    let start = else1→start t (c .before .before .before .before .before) in
-    omega (arith, first-within _ _ _ (forward-loaded _ _ _ _ _ _ _ _ (c .before .before .before .before .before .before .load .ensures) (start .pre .1) (start .pre .1 .labelled) (c .before .before .before .before .before .if1 .left)) _ _ (start .pre .1 .fits) _ _ _ (c .before .before .before .climb-fwd .ensures .put (start .pre .1 .labelled)), start .pre .1 .fits)
+    let climbed = c .before .before .before in
+    let else1 = climb-fwd→else1 t climbed in
+    let p = (load→start t (else1 .before)) .pre .1 in
+    omega (arith, first-within (climbed .climb-fwd .ensures .put (from-parent (p .ascent) _ (else1 .before .load .ensures) (else1 .if1 .left))), p .fits)
 
 climb-fwd-sub-unpack-fwd : (t : ℕ) → climb-fwd-lts.Need-sub-unpack-fwd (climb-fwd-claims t) (climb-fwd-at t) climb-fwd.Post
 climb-fwd-sub-unpack-fwd t c =
-    let start = else1→start t (c .before .before .before .before .before) in
-    first-within _ _ _ (forward-loaded _ _ _ _ _ _ _ _ (c .before .before .before .before .before .before .load .ensures) (start .pre .1) (start .pre .1 .labelled) (c .before .before .before .before .before .if1 .left)) _ _ (start .pre .1 .fits) _ _ _ (c .before .before .before .climb-fwd .ensures .put (start .pre .1 .labelled))
+    let climbed = c .before .before .before in
+    let else1 = climb-fwd→else1 t climbed in
+    let p = (load→start t (else1 .before)) .pre .1 in
+    first-within (climbed .climb-fwd .ensures .put (from-parent (p .ascent) _ (else1 .before .load .ensures) (else1 .if1 .left)))
 
 climb-fwd-unpack-fwd-requires : (t : ℕ) → climb-fwd-lts.Need-unpack-fwd-requires (climb-fwd-claims t) (climb-fwd-at t) climb-fwd.Post
 climb-fwd-unpack-fwd-requires t c κs =
-    let start = else1→start t (c .before .before .before .before .before) in
-    record { entry = loaded-via _ _ _ _ _ _ _ _ (start .pre .1) _ (c .before .before .before .before .before .before .load .ensures) (c .before .before .before .before .before .if1 .left); fits = rest-fits _ _ _ (forward-loaded _ _ _ _ _ _ _ _ (c .before .before .before .before .before .before .load .ensures) (start .pre .1) (start .pre .1 .labelled) (c .before .before .before .before .before .if1 .left)) _ _ (start .pre .1 .fits) _ _ _ (c .before .before .before .climb-fwd .ensures .put (start .pre .1 .labelled)) }
+    let climbed = c .before .before .before in
+    let else1 = climb-fwd→else1 t climbed in
+    let p = (load→start t (else1 .before)) .pre .1 in
+    let is = else1 .before .load .ensures in
+    let some = else1 .if1 .left in
+    record { n = p .n; h = p .h; entry = along-used (p .ascent) _ is some; fits = rest-fits (climbed .climb-fwd .ensures .put (from-parent (p .ascent) _ is some)) (p .fits) }
 
 climb-fwd-add-result : (t : ℕ) → climb-fwd-lts.Need-add-result (climb-fwd-claims t) (climb-fwd-at t) climb-fwd.Post
 climb-fwd-add-result t c =
-    let start = unpack-fwd→start t (c .before .before) in
-    omega (arith, both-within _ _ _ (forward-loaded _ _ _ _ _ _ _ _ ((unpack-fwd→else1 t (c .before .before)) .before .load .ensures) (start .pre .1) (start .pre .1 .labelled) ((unpack-fwd→else1 t (c .before .before)) .if1 .left)) _ _ (start .pre .1 .fits) _ _ _ (c .before .before .before .before .before .before .climb-fwd .ensures .put (start .pre .1 .labelled)) _ _ (c .before .before .unpack-fwd .ensures))
+    let climbed = unpack-fwd→climb-fwd t (c .before .before) in
+    let else1 = climb-fwd→else1 t climbed in
+    let p = (load→start t (else1 .before)) .pre .1 in
+    let is = else1 .before .load .ensures in
+    let some = else1 .if1 .left in
+    omega (arith, both-within (climbed .climb-fwd .ensures .put (from-parent (p .ascent) _ is some)) (c .before .before .unpack-fwd .ensures .put (along-used (p .ascent) _ is some)) (p .fits))
 
 climb-fwd-same-length : (t : ℕ) → climb-fwd-lts.Need-same-length (climb-fwd-claims t) (climb-fwd-at t) climb-fwd.Post
-climb-fwd-same-length t c = c .before .before .unpack-fwd .kept .1 .1 .1 .1 .1 .1 .1 .1 .1 .1 .1 .1 .1 .1 .1 .0 ∙ c .before .before .before .before .before .before .climb-fwd .kept .1 .1 .1 .1 .1 .1 .1 .1 .1 .1 .1 .1 .1 .1 .1 .1 .1 .0
+climb-fwd-same-length t c = search needs
 
 climb-fwd-returns-2 : (t : ℕ) → climb-fwd-lts.Need-returns-2 (climb-fwd-claims t) (climb-fwd-at t) climb-fwd.Post
 climb-fwd-returns-2 t c =
-    let start = unpack-fwd→start t (c .before .before) in
-    record { put = λ l. put-both _ _ _ (forward-loaded _ _ _ _ _ _ _ _ ((unpack-fwd→else1 t (c .before .before)) .before .load .ensures) (start .pre .1) l ((unpack-fwd→else1 t (c .before .before)) .if1 .left)) _ _ (start .pre .1 .fits) _ _ _ (c .before .before .before .before .before .before .climb-fwd .ensures .put l) _ _ (c .before .before .unpack-fwd .ensures) }
+    let climbed = unpack-fwd→climb-fwd t (c .before .before) in
+    let else1 = climb-fwd→else1 t climbed in
+    let is = else1 .before .load .ensures in
+    let some = else1 .if1 .left in
+    record { put = λ a. put-both (climbed .climb-fwd .ensures .put (from-parent a _ is some)) (c .before .before .unpack-fwd .ensures .put (along-used a _ is some)) (forward-on a _ is some) }
 
 pub +climb-fwd-spec : {M : Type 1} → statement M
 +climb-fwd-spec = close μ-climb-fwd λ t. climb-fwd-lts.spec (

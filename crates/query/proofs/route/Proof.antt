@@ -1,23 +1,32 @@
 -- A query that is not refused is searched, and what the search found is handed back.
+use native.Mathlib.Omega.{arith}
 use borrow.Author.Needs.{needs}
+use Rattle.rules.specs.Columns.{begin}
+use Rattle.rules.specs.TableRules.{used}
 use Rattle.query.proofs.Found.{searching, none-found, handing, walk-found}
 use Rattle.query.proofs.route.Statement.{statement}
 use Rattle.query.proofs.route.Tie as tie
 
-abbrev forward→start : tie.After-shared-slice-known7 → tie.Start
-forward→start c = c .before .before .before .before .before .before .before
+abbrev backward→forward : tie.After-shared-slice-known8 → tie.After-shared-slice-known2
+backward→forward c = c .before .before .before .before .before .before
+
+abbrev tables→backward : tie.After-shared-slice-known13 → tie.After-shared-slice-known8
+tables→backward c = c .before .before .before .before .before
 
 abbrev tables→start : tie.After-shared-slice-known13 → tie.Start
-tables→start c = forward→start (c .before .before .before .before .before .before)
+tables→start c = backward→forward (tables→backward c) .before .before
 
-abbrev path→start : tie.After-slice-known → tie.Start
-path→start c = tables→start (c .before .before .before .before .before)
+abbrev path→tables : tie.After-slice-known → tie.After-shared-slice-known13
+path→tables c = c .before .before .before .before .before
 
-abbrev scratch→start : tie.After-slice-known5 → tie.Start
-scratch→start c = path→start (c .before .before .before .before)
+abbrev scratch→tables : tie.After-slice-known5 → tie.After-shared-slice-known13
+scratch→tables c = path→tables (c .before .before .before .before)
+
+abbrev search→tables : tie.After-search → tie.After-shared-slice-known13
+search→tables c = scratch→tables (c .before .before .before .before .before)
 
 abbrev search→start : tie.After-search → tie.Start
-search→start c = scratch→start (c .before .before .before .before .before)
+search→start c = tables→start (search→tables c)
 
 abbrev bl→search : tie.After-bl → tie.After-search
 bl→search c = c .before .before .before
@@ -29,7 +38,7 @@ abbrev else→search : tie.Else1 → tie.After-search
 else→search c = known→search (c .before)
 
 search-requires : tie.Need-search-requires
-search-requires c κs = searching _ _ _ _ _ _ _ _ _ _ _ _ (scratch→start (c .before .before .before .before) .pre)
+search-requires c κs = searching _ _ _ _ _ _ _ _ _ _ _ _ (tables→start (scratch→tables (c .before .before .before .before)) .pre)
 
 same-length : tie.Need-same-length
 same-length c = search needs
@@ -52,10 +61,14 @@ cast-hand-back : tie.Need-cast-hand-back
 cast-hand-back c = search needs
 
 hand-back-requires : tie.Need-hand-back-requires
+unfolding used begin
 hand-back-requires c κs =
     let e = c .before .before .before .before in
     let s = else→search e in
-    handing _ _ _ _ _ _ _ _ _ _ _ _ (search→start s .pre) _ _ _ _ _ (s .search .ensures) (e .if1 .left) (s .search .kept .1 .1 .1 .1 .1 .1 .1 .1 .1 .1 .1 .1 .1 .1 .1 .1 .1 .1 .0) (s .search .kept .1 .1 .1 .1 .1 .1 .1 .1 .1 .1 .1 .1 .1 .1 .1 .1 .1 .1 .1 .0)
+    let n = search→start s .args .n in
+    let b = tables→backward (search→tables s) in
+    let f = backward→forward b in
+    handing _ _ _ _ _ _ _ _ _ _ _ _ (search→start s .pre) _ _ _ _ _ (s .search .ensures) (e .if1 .left) (omega (arith, f .shared-slice-known2 .given n)) (omega (arith, b .shared-slice-known8 .given n)) (s .search .kept .1 .1 .1 .1 .1 .1 .1 .1 .1 .1 .1 .1 .1 .1 .1 .1 .1 .1 .0) (s .search .kept .1 .1 .1 .1 .1 .1 .1 .1 .1 .1 .1 .1 .1 .1 .1 .1 .1 .1 .1 .0)
 
 same-length-5 : tie.Need-same-length-5
 same-length-5 c = search needs
