@@ -29,7 +29,7 @@ use Rattle.paths.specs.Climbs.{half-walk, Labelled, Ascent}
 abbrev bare : List ℕ → ℕ → Half
 bare labels base = record { label = seen labels base; settled = λ v. false; heap = [] }
 
--- how many entries lead up to a node, by the labels alone: no chain is longer than there may be nodes
+-- how many entries lead up to a node, by the labels alone: ranks rise along the chain, so fuel for the most nodes is enough
 unfoldable pub steps : List ℕ → ℕ → ℕ → ℕ
 steps labels base v = length (climb maxNodes (bare labels base) v)
 

@@ -142,7 +142,7 @@ module _ (n : ℕ) (h : Hierarchy) (rules : TableRules n h) where
       (omega (arith, unpack-some f backward i (o .in-used) (omega (arith, o .lower)))))
       (λ t. rw (unpack-plain h f s e t) (omega arith))
 
--- How many nodes an entry opens into, by the columns alone: no rank is above the number of nodes.
+-- How many nodes an entry opens into, by the columns alone: every rank is below the most nodes, so that fuel is enough.
 unfoldable pub opening : Hierarchy → Side → ℕ → ℕ
 opening g s e = length (unpack g maxNodes s e)
 
