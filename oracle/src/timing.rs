@@ -48,8 +48,11 @@ pub fn time(names: &[&str]) {
     println!("graph     nodes  links  entries   ours ms  crate ms  ours/crate");
     meshes.iter().for_each(time_builds);
     println!("\nqueries, us each; over the crate's");
-    println!("graph      crate   whole    many   check   empty    whole   many  check  whole - check  whole - empty");
+    println!("graph      crate   whole   check   empty    whole  check  whole - check  whole - empty");
     meshes.iter().for_each(time_queries);
+    println!("\nmany routes, {QUERIES} pairs in one call, us each");
+    println!("graph      crate    ours  of it the check  ours/crate  without the check");
+    meshes.iter().for_each(time_routes);
 }
 
 pub fn timed<T>(work: impl FnOnce() -> T) -> (T, f64) {
@@ -97,15 +100,43 @@ fn time_builds(mesh: &Mesh) {
     println!(" {:>9.2} {:>9.2} {:>11.2}", 1e3 * ours, 1e3 * theirs, ours / theirs);
 }
 
-/// Queries of one source and one target by both, the crate's calculator made once and our scratch left as each call leaves it; and all of
-/// a run in one call of ours. Beside them the table check, which each of our calls makes, and calls with ends that do not count: they check
-/// the tables, clear the labels and have nothing to find.
+/// Random pairs of a mesh, and what the crate answers for them.
+struct Pairs<'a> {
+    built: &'a FastGraph,
+    calculator: PathCalculator,
+    pairs: Vec<[NodeId; 2]>,
+    answers: Vec<Answer>,
+}
+
+/// Number, weight, and how many nodes the walk has.
+type Answer = (u32, u64, usize);
+const NONE: Answer = (0, WEIGHT_MAX, 0);
+
+impl Pairs<'_> {
+    fn new(mesh: &Mesh) -> Pairs<'_> {
+        let nodes = mesh.order.len();
+        let mut numbers = Rng(1);
+        let pairs: Vec<[NodeId; 2]> = (0..QUERIES).map(|_| [(); 2].map(|_| below(&mut numbers, nodes))).collect();
+        let mut drawn = Pairs { built: &mesh.built, calculator: PathCalculator::new(nodes), pairs, answers: Vec::new() };
+        drawn.answers = (0..QUERIES).map(|k| drawn.crates(k)).collect();
+        drawn
+    }
+
+    /// The crate's answer for a pair, its calculator made once.
+    fn crates(&mut self, k: usize) -> Answer {
+        let [source, target] = self.pairs[k];
+        self.calculator.calc_path(self.built, source, target).map_or(NONE, |path| (0, path.weight, path.nodes.len()))
+    }
+}
+
+/// Queries of one source and one target by both, our scratch left as each call leaves it. Beside them the table check, which each of our calls
+/// makes, and calls with ends that do not count: they check the tables, clear the labels and have nothing to find.
 fn time_queries(mesh: &Mesh) {
-    let built = &mesh.built;
-    let subject = Subject::new(tables_of(built, 0), None);
-    let nodes = subject.nodes();
+    let subject = Subject::new(tables_of(&mesh.built, 0), None);
+    let mut drawn = Pairs::new(mesh);
+    let (pairs, answers) = (drawn.pairs.clone(), drawn.answers.clone());
     let asking = |offset: u64| {
-        let mut path = vec![FILLED; nodes];
+        let mut path = vec![FILLED; subject.nodes()];
         let mut scratch = subject.scratch().map(|length| vec![9; length]);
         let ours = &subject.ours;
         move |pair: &[NodeId; 2]| {
@@ -114,36 +145,41 @@ fn time_queries(mesh: &Mesh) {
         }
     };
     let (mut ask, mut ask_nothing) = (asking(0), asking(WEIGHT_MAX));
-    const NONE: (u32, u64, usize) = (0, WEIGHT_MAX, 0);
-    let mut lent = Routes::filled([AT_A_TIME, AT_A_TIME, AT_A_TIME, AT_A_TIME * nodes]);
-    let mut scratch = subject.scratch().map(|length| vec![9; length]);
-    let mut ask_all = |pairs: &[[NodeId; 2]], answers: &[(u32, u64, usize)]| {
-        let [sources, targets] = [0, 1].map(|side| pairs.iter().map(|pair| pair[side] as u32).collect::<Vec<u32>>());
-        subject.ours.routes(&sources, &targets, &mut lent, &mut scratch);
-        let answer = |k: usize| (lent.numbers[k], lent.weights[k], lent.lengths[k] as usize);
-        (0..pairs.len()).filter(|&k| answer(k) == answers[k]).count()
-    };
-    let mut calculator = PathCalculator::new(nodes);
-    let mut crates = |&[source, target]: &[NodeId; 2]| {
-        calculator.calc_path(built, source, target).map_or(NONE, |path| (0, path.weight, path.nodes.len()))
-    };
-    let mut numbers = Rng(1);
-    let pairs: Vec<[NodeId; 2]> = (0..QUERIES).map(|_| [(); 2].map(|_| below(&mut numbers, nodes))).collect();
-    let answers: Vec<_> = pairs.iter().map(&mut crates).collect();
-    let mut seconds = [0.0; 5];
+    let mut seconds = [0.0; 4];
     // Each gives how many came out as they must.
-    for (pairs, answers) in pairs.chunks(AT_A_TIME).zip(answers.chunks(AT_A_TIME)) {
+    for first in (0..QUERIES).step_by(AT_A_TIME) {
+        let some = first..first + AT_A_TIME;
         let best = best_of([
-            &mut || pairs.iter().zip(answers).filter(|(pair, answer)| crates(pair) == **answer).count(),
-            &mut || pairs.iter().zip(answers).filter(|(pair, answer)| ask(pair) == **answer).count(),
-            &mut || ask_all(pairs, answers),
-            &mut || pairs.iter().filter(|_| subject.ours.check() == 0).count(),
-            &mut || pairs.iter().filter(|pair| ask_nothing(pair) == NONE).count(),
+            &mut || some.clone().filter(|&k| drawn.crates(k) == answers[k]).count(),
+            &mut || some.clone().filter(|&k| ask(&pairs[k]) == answers[k]).count(),
+            &mut || some.clone().filter(|_| subject.ours.check() == 0).count(),
+            &mut || some.clone().filter(|&k| ask_nothing(&pairs[k]) == NONE).count(),
         ]);
         seconds.iter_mut().zip(best).for_each(|(sum, best)| *sum += best);
     }
-    let [theirs, whole, many, check, empty] = seconds.map(|seconds| 1e6 * seconds / QUERIES as f64);
-    let [a, b, c, d, e] = [whole, many, check, whole - check, whole - empty].map(|time| time / theirs);
-    print!("{:<10} {theirs:>5.2} {whole:>7.2} {many:>7.2} {check:>7.2} {empty:>7.2} ", mesh.name);
-    println!("{a:>8.2} {b:>6.2} {c:>6.2} {d:>14.2} {e:>14.2}");
+    let [theirs, whole, check, empty] = seconds.map(|seconds| 1e6 * seconds / QUERIES as f64);
+    let [a, b, c, d] = [whole, check, whole - check, whole - empty].map(|time| time / theirs);
+    print!("{:<10} {theirs:>5.2} {whole:>7.2} {check:>7.2} {empty:>7.2} ", mesh.name);
+    println!("{a:>8.2} {b:>6.2} {c:>14.2} {d:>14.2}");
+}
+
+/// All pairs in one call of ours, beside the crate's calculator asked for one after the other; and the table check, which ours makes once.
+fn time_routes(mesh: &Mesh) {
+    let subject = Subject::new(tables_of(&mesh.built, 0), None);
+    let mut drawn = Pairs::new(mesh);
+    let [sources, targets] = [0, 1].map(|side| drawn.pairs.iter().map(|pair| pair[side] as u32).collect::<Vec<u32>>());
+    let answers = drawn.answers.clone();
+    let mut lent = Routes::filled([QUERIES, QUERIES, QUERIES, QUERIES * subject.nodes()]);
+    let mut scratch = subject.scratch().map(|length| vec![9; length]);
+    let [theirs, many, check] = best_of([
+        &mut || (0..QUERIES).filter(|&k| drawn.crates(k) == answers[k]).count(),
+        &mut || {
+            subject.ours.routes(&sources, &targets, &mut lent, &mut scratch);
+            (0..QUERIES).filter(|&k| (lent.numbers[k], lent.weights[k], lent.lengths[k] as usize) == answers[k]).count()
+        },
+        &mut || if subject.ours.check() == 0 { QUERIES } else { 0 },
+    ])
+    .map(|seconds| 1e6 * seconds / QUERIES as f64);
+    print!("{:<10} {theirs:>5.2} {many:>7.2} {check:>16.2}", mesh.name);
+    println!(" {:>11.2} {:>18.2}", many / theirs, (many - check) / theirs);
 }

@@ -1,6 +1,5 @@
 -- Pair by pair, what the definition leaves is an outcome of the pair's single query.
-use mathlib.Core.Bool.{Bool, true, false}
-use mathlib.Core.List.{List, [], _∷_, _++_, map, append-assoc}
+use mathlib.Core.List.{List, [], _++_, map, append-assoc}
 use mathlib.Core.Path.{_≡_, refl, sym, ap, _∙_}
 use Prim.Native.Nat.{ℕ, zero, suc, _+_, _*_, _-_, _<_, _≤_}
 use native.Mathlib.Nat.{zero-mul, suc-mul, mul-le-mul-right}
@@ -17,7 +16,6 @@ use Rattle.rules.proofs.Cases.{on-test}
 use Rattle.rules.proofs.Prefixes.{over-at, over-length, counted-length}
 use Rattle.query.specs.Answers.{answer, Tells}
 use Rattle.calc_paths.specs.Many.{Columns, PathsCall, PathsAnswered, own-places, single, paths-refusal, answers-of, answers, unless-refused, calc-paths}
-use Rattle.calc_paths.specs.Filling.{Earlier, Fillable, answered}
 use Rattle.calc_paths.specs.Outcome.{Outcome, EachPair}
 use Rattle.calc_paths.proofs.Rows.{fillable}
 

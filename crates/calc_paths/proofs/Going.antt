@@ -3,7 +3,6 @@ use mathlib.Core.List.{List, [], _∷_, _++_, map, map-append, append-assoc, app
 use mathlib.Core.Path.{_≡_, refl, sym, ap, _∙_}
 use Prim.Native.Nat.{ℕ, zero, suc, _+_, _*_, _-_, _<_, _≤_}
 use native.Mathlib.Nat.{add-mul, one-mul, mul-le-mul-right}
-use native.Mathlib.Numerals.{add-one}
 use native.Mathlib.Omega.{arith}
 use lib.ListN.{length, getD, set, take, drop, length-map, length-append, length-drop}
 use lib.Seq.{take-at, drop-at, drop-drop, drop-append-add, length-take-le}
@@ -12,7 +11,7 @@ use Rattle.rules.specs.Columns.{Hierarchy}
 use Rattle.rules.specs.Query.{Answered, query}
 use Rattle.rules.proofs.Prefixes.{counted-length, flat-map-append, over-next}
 use Rattle.calc_paths.specs.Many.{Columns, PathsCall, own-places, pair-call, single, answers-of, answers}
-use Rattle.calc_paths.specs.Filling.{columns-of, paths-call, Checked, Earlier, Filling, Filled, Fillable, put-answer}
+use Rattle.calc_paths.specs.Filling.{columns-of, paths-call, Earlier, Filling, Filled, Fillable, put-answer}
 
 counted-on : (a m : ℕ) → count-from a (suc m) ≡ count-from a m ++ (a + m) ∷ []
 unfolding count-from

@@ -1,10 +1,8 @@
 -- One pair: its rows, and what it leaves.
-use mathlib.Core.Bool.{Bool, true, false}
 use mathlib.Core.List.{List, [], _∷_, _++_}
-use mathlib.Core.Path.{_≡_, refl, sym, ap, _∙_}
+use mathlib.Core.Path.{_≡_, ap, _∙_}
 use Prim.Native.Nat.{ℕ, _+_, _*_, _-_, _<_, _≤_}
 use native.Mathlib.Omega.{arith}
-use lib.Dec.{ltb}
 use lib.ListN.{length, set, take, drop, length-take, length-drop}
 use lib.Seq.{length-take-le, drop-drop}
 use borrow.Author.Tests.{lt-ltb, le-ltb}
@@ -15,7 +13,6 @@ use Rattle.rules.specs.Refusals.{QueryCall, first-met, check-rows, end-rows, en
 use Rattle.rules.specs.Query.{Answered, query}
 use Rattle.rules.proofs.TablesDecided.{tables-decided}
 use Rattle.query_laws.proofs.Accepted.{accepted}
-use Rattle.halves.specs.Labels.{Before}
 use Rattle.query.specs.declared.Answer.{Answer}
 use Rattle.query.specs.Answers.{answer, Tells, Routing, Routed}
 use Rattle.query.proofs.Handing.{part-long, tells-refused, tells-found}

@@ -11,7 +11,7 @@ use Rattle.rules.specs.Query.{Answered, query}
 use Rattle.halves.specs.Labels.{Before}
 use Rattle.query.specs.declared.Answer.{Answer}
 use Rattle.query.specs.Answers.{Tells}
-use Rattle.calc_paths.specs.Many.{Columns, PathsCall, PathsAnswered, own-places, pair-call, answers}
+use Rattle.calc_paths.specs.Many.{Columns, PathsCall, PathsAnswered, own-places, pair-call}
 
 abbrev pub columns-of : List ℕ → List ℕ → List ℕ → List ℕ → Columns
 columns-of numbers weights lengths paths = record { numbers = numbers; weights = weights; lengths = lengths; paths = paths }

@@ -1,6 +1,6 @@
 -- Many routes after one check. Each pair of a source and a target is the single query with both at offset 0 and with its own n places of the
 -- path column.
-use mathlib.Core.Bool.{Bool, not, _||_}
+use mathlib.Core.Bool.{not, _||_}
 use mathlib.Core.List.{List, [], _∷_, _++_, map}
 use Prim.Native.Nat.{ℕ, zero, suc, _*_}
 use lib.Dec.{eqb}

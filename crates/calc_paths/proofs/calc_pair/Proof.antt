@@ -1,5 +1,4 @@
 -- Row 22 is the only one that a pair of the call may meet; a pair that does not is the route of its query.
-use native.Mathlib.Omega.{arith}
 use borrow.Author.Needs.{needs}
 use Rattle.calc_paths.proofs.Pairs.{pair-source, pair-target, paired, routing}
 use Rattle.calc_paths.proofs.calc_pair.Statement.{statement}
