@@ -15,7 +15,7 @@ use Rattle.rules.specs.Query.{Answered, Halves, no-route, handed-back, searched
 use Rattle.rules.proofs.Cases.{on-test}
 use Rattle.rules.proofs.Prefixes.{over-at, over-length, counted-length}
 use Rattle.query.specs.Answers.{answer, Tells}
-use Rattle.calc_paths.specs.Many.{Columns, PathsCall, PathsAnswered, own-places, single, paths-refusal, answers-of, answers, unless-refused, calc-paths}
+use Rattle.calc_paths.specs.Many.{Answers, PathsCall, PathsAnswered, own-places, single, paths-refusal, answers-of, answers, unless-refused, calc-paths}
 use Rattle.calc_paths.specs.Outcome.{Outcome, EachPair}
 use Rattle.calc_paths.proofs.Rows.{fillable}
 
@@ -111,7 +111,7 @@ unfolding unless-refused
 number-is c zero = refl
 number-is c (suc r) = refl
 
-module _ (c : PathsCall) (r : ℕ) (after : Columns) (o : Outcome c r after) (none : r ≡ 0) where
+module _ (c : PathsCall) (r : ℕ) (after : Answers) (o : Outcome c r after) (none : r ≡ 0) where
   fine : paths-refusal c ≡ 0
   unfolding calc-paths
   fine = sym (number-is c (paths-refusal c)) ∙ sym (ap (λ (z : PathsAnswered). z .number) o) ∙ none

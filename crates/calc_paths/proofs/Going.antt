@@ -10,8 +10,9 @@ use Rattle.rules.specs.Lists.{count-from, range, over, flat-map}
 use Rattle.rules.specs.Columns.{Hierarchy}
 use Rattle.rules.specs.Query.{Answered, query}
 use Rattle.rules.proofs.Prefixes.{counted-length, flat-map-append, over-next}
-use Rattle.calc_paths.specs.Many.{Columns, PathsCall, own-places, pair-call, single, answers-of, answers}
-use Rattle.calc_paths.specs.Filling.{columns-of, paths-call, Earlier, Filling, Filled, Fillable, put-answer}
+use Rattle.path_calculator.specs.Searching.{Earlier}
+use Rattle.calc_paths.specs.Many.{Answers, PathsCall, own-places, pair-call, single, answers-of, answers}
+use Rattle.calc_paths.specs.Filling.{columns-of, paths-call, Filling, Filled, Fillable, put-answer}
 
 counted-on : (a m : ℕ) → count-from a (suc m) ≡ count-from a m ++ (a + m) ∷ []
 unfolding count-from
@@ -22,9 +23,9 @@ counted-on a (suc m) =
     let e : suc a + m ≡ a + suc m = omega arith in
     ap (λ l. a ∷ l) (counted-on (suc a) m) ∙ ap (λ j. a ∷ (count-from (suc a) m ++ j ∷ [])) e
 
-pub range-on : (k : ℕ) → range 0 (k + 1) ≡ range 0 k ++ k ∷ []
+pub range-more : (k : ℕ) → range 0 (k + 1) ≡ range 0 k ++ k ∷ []
 unfolding range
-range-on k =
+range-more k =
     let a : k + 1 - 0 ≡ suc k = omega arith in
     let b : k - 0 ≡ k = omega arith in
     let z : 0 + k ≡ k = omega arith in
@@ -38,7 +39,7 @@ range-long k = counted-length 0 (k - 0) ∙ omega arith
 column-on : (f : ℕ → ℕ) (lent : List ℕ) (k : ℕ) → k < length lent → set (over lent (map f (range 0 k))) k (f k) ≡ over lent (map f (range 0 (k + 1)))
 column-on f lent k room =
     over-next lent (map f (range 0 k)) k (f k) (length-map (range 0 k) f ∙ range-long k) room
-    ∙ ap (over lent) (sym (ap (map f) (range-on k) ∙ map-append f (range 0 k) (k ∷ [])))
+    ∙ ap (over lent) (sym (ap (map f) (range-more k) ∙ map-append f (range 0 k) (k ∷ [])))
 
 -- the places of one pair more: m places are written, and n follow
 places-on : (lent w q : List ℕ) (m n : ℕ) → length w ≡ m → length q ≡ n →
@@ -51,7 +52,7 @@ places-on lent w q m n lw lq =
     ∙ ap (λ j. drop j lent) (ap (λ j. length w + j) (sym lq) ∙ sym (length-append w q)) in
     (λ i. take-at w d m lw i ++ (q ++ rest i)) ∙ sym (append-assoc w q (drop (length (w ++ q)) lent))
 
-module _ (n : ℕ) (h : Hierarchy) (sources targets : List ℕ) (lent : Columns) (fl₀ bl₀ fh₀ bh₀ : List ℕ) where
+module _ (n : ℕ) (h : Hierarchy) (sources targets : List ℕ) (lent : Answers) (fl₀ bl₀ fh₀ bh₀ : List ℕ) where
   abbrev c : PathsCall
   c = paths-call n h sources targets lent (length fl₀ ∷ length bl₀ ∷ length fh₀ ∷ length bh₀ ∷ [])
 
@@ -59,7 +60,7 @@ module _ (n : ℕ) (h : Hierarchy) (sources targets : List ℕ) (lent : Columns)
   abbrev walks : ℕ → List ℕ
   walks k = flat-map (λ j. query (single c j) .path) (range 0 k)
 
-  pub record Going (now : Columns) (fl bl fh bh : List ℕ) (k : ℕ) : Type 0 where
+  pub record Going (now : Answers) (fl bl fh bh : List ℕ) (k : ℕ) : Type 0 where
     pub passed : k ≤ length sources
     pub is : now ≡ answers-of c k
     pub whole : length (walks k) ≡ k * n
@@ -92,7 +93,7 @@ module _ (n : ℕ) (h : Hierarchy) (sources targets : List ℕ) (lent : Columns)
           bh-long = refl;
         }
 
-    module _ (now : Columns) (fl bl fh bh : List ℕ) (k : ℕ) (g : Going now fl bl fh bh k) where
+    module _ (now : Answers) (fl bl fh bh : List ℕ) (k : ℕ) (g : Going now fl bl fh bh k) where
       pub done : length sources ≤ k → now ≡ answers c
       done all = g .is ∙ ap (answers-of c) (omega (arith, g .passed))
 
@@ -128,10 +129,10 @@ module _ (n : ℕ) (h : Hierarchy) (sources targets : List ℕ) (lent : Columns)
         own : own-places n (now .paths) k ≡ own-places n ps k
         unfolding own-places answers-of over
         own =
-            ap (λ (x : Columns). take n (drop (k * n) (x .paths))) (g .is)
+            ap (λ (x : Answers). take n (drop (k * n) (x .paths))) (g .is)
             ∙ ap (take n) (drop-at (walks k) (drop (length (walks k)) ps) (k * n) (g .whole) ∙ ap (λ j. drop j ps) (g .whole))
 
-        module _ (after : Columns) (fl′ bl′ fh′ bh′ : List ℕ)
+        module _ (after : Answers) (fl′ bl′ fh′ bh′ : List ℕ)
             (x : Filled n h (getD sources k 0) (getD targets k 0) k now (length fl ∷ length bl ∷ length fh ∷ length bh ∷ []) after fl′ bl′)
             (ln : length (after .numbers) ≡ length (now .numbers)) (lw : length (after .weights) ≡ length (now .weights))
             (ll : length (after .lengths) ≡ length (now .lengths)) (lp : length (after .paths) ≡ length (now .paths))
@@ -155,7 +156,7 @@ module _ (n : ℕ) (h : Hierarchy) (sources targets : List ℕ) (lent : Columns)
                 arith,
                 room,
                 lp,
-                ap (λ (z : Columns). length (z .paths)) after-is,
+                ap (λ (z : Answers). length (z .paths)) after-is,
                 length-append cut (a .path ++ rest),
                 length-append (a .path) rest,
                 length-take-le (k * n) (now .paths) (omega (arith, room)),
@@ -166,7 +167,7 @@ module _ (n : ℕ) (h : Hierarchy) (sources targets : List ℕ) (lent : Columns)
           unfolding flat-map
           walks-on =
               let o : ℕ → List ℕ = λ j. query (single c j) .path in
-              ap (flat-map o) (range-on k) ∙ flat-map-append o (range 0 k) (k ∷ []) ∙ ap (λ l. walks k ++ l) (append-nil (a .path))
+              ap (flat-map o) (range-more k) ∙ flat-map-append o (range 0 k) (k ∷ []) ∙ ap (λ l. walks k ++ l) (append-nil (a .path))
 
           put-on : put-answer n k a (answers-of c k) ≡ answers-of c (k + 1)
           unfolding put-answer answers-of

@@ -13,11 +13,12 @@ use Rattle.rules.specs.Refusals.{QueryCall, first-met, check-rows, end-rows, en
 use Rattle.rules.specs.Query.{Answered, query}
 use Rattle.rules.proofs.TablesDecided.{tables-decided}
 use Rattle.query_laws.proofs.Accepted.{accepted}
+use Rattle.path_calculator.specs.Searching.{Earlier}
 use Rattle.query.specs.declared.Answer.{Answer}
 use Rattle.query.specs.Answers.{answer, Tells, Routing, Routed}
 use Rattle.query.proofs.Handing.{part-long, tells-refused, tells-found}
-use Rattle.calc_paths.specs.Many.{Columns, own-places, pair-call}
-use Rattle.calc_paths.specs.Filling.{columns-of, Checked, Earlier, Pairing, Paired, Filling, Filled, put-answer}
+use Rattle.calc_paths.specs.Many.{Answers, own-places, pair-call}
+use Rattle.calc_paths.specs.Filling.{columns-of, Checked, Pairing, Paired, Filling, Filled, put-answer}
 
 -- labels of earlier pairs are of earlier pairs later too
 pub earlier-still : {n base : ℕ} {fl bl : List ℕ} → Earlier n base fl bl → Earlier n (base + 2) fl bl
@@ -61,7 +62,7 @@ module _ (n : ℕ) (h : Hierarchy) (s t : ℕ) (path scratch : List ℕ) (checke
       record {
         tells = tells;
         few = walk-few (query c) r path′ tells (long ∙ places);
-        earlier = record { fwd = routed .fwd-before; bwd = routed .bwd-before };
+        earlier = routed .earlier;
       }
 
 -- a pair that is searched
@@ -70,8 +71,7 @@ pub routing : (n : ℕ) (h : Hierarchy) (s t : ℕ) (path fl bl fh bh : List ℕ
 routing n h s t path fl bl fh bh base p low low-t =
     record {
       accepted = accepted _ (taken n h s t path _ (p .checked) (p .places) low low-t);
-      fwd-before = p .earlier .fwd;
-      bwd-before = p .earlier .bwd;
+      earlier = p .earlier;
       stamps = p .stamps;
     }
 
@@ -116,7 +116,7 @@ module _ (n k : ℕ) (ps : List ℕ) where
       }
 
 -- What pair k asks of the ranges of numbers.
-module _ {n : ℕ} {h : Hierarchy} {sources targets : List ℕ} {k : ℕ} {lent : Columns} {fl bl fh bh : List ℕ}
+module _ {n : ℕ} {h : Hierarchy} {sources targets : List ℕ} {k : ℕ} {lent : Answers} {fl bl fh bh : List ℕ}
     (f : Filling n h sources targets k lent fl bl fh bh) where
   pub few-nodes : n ≤ 1024
   few-nodes = tables-decided n h .0 (f .checked .tables) .nodes

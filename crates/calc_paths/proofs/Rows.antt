@@ -1,5 +1,5 @@
 -- Which row the whole call meets first.
-use mathlib.Core.Bool.{Bool, true, false, _||_}
+use mathlib.Core.Bool.{Bool, true, false}
 use mathlib.Core.List.{List, [], _∷_}
 use mathlib.Core.Path.{_≡_, refl, sym, ap, _∙_}
 use Prim.Native.Nat.{ℕ, zero, suc, _*_, _/_, _<_, _≤_}
@@ -16,14 +16,11 @@ use Rattle.rules.proofs.Rows.{not-met}
 use Rattle.rules.proofs.TablesDecided.{tables-decided}
 use Rattle.query.specs.Rows.{room-short}
 use Rattle.halves.specs.Labels.{Before}
-use Rattle.query.proofs.FirstMet.{table-rules}
+use Rattle.query.proofs.FirstMet.{or-none, table-rules}
 use Rattle.query.proofs.Found.{rooms}
-use Rattle.calc_paths.specs.Many.{Columns, PathsCall, many-rows, paths-refusal, lengths-of, answers, unless-refused, calc-paths}
-use Rattle.calc_paths.specs.Filling.{paths-call, answered, Earlier, Fillable}
-
-or-none : (b : Bool) → b ≡ (b || false)
-or-none true = refl
-or-none false = refl
+use Rattle.path_calculator.specs.Searching.{Earlier}
+use Rattle.calc_paths.specs.Many.{Answers, PathsCall, many-rows, paths-refusal, lengths-of, answers, unless-refused, calc-paths}
+use Rattle.calc_paths.specs.Filling.{paths-call, answered, Fillable}
 
 -- Places for the answers of p pairs.
 module _ (n p a b c d : ℕ) where
@@ -123,7 +120,7 @@ labels-room n h s t lent kf kb jf jb fine =
     (r .0, r .1)
 
 -- A call that meets no row.
-module _ (n : ℕ) (h : Hierarchy) (sources targets : List ℕ) (lent : Columns) (scratch : List ℕ) where
+module _ (n : ℕ) (h : Hierarchy) (sources targets : List ℕ) (lent : Answers) (scratch : List ℕ) where
   abbrev c : PathsCall
   c = paths-call n h sources targets lent scratch
 
@@ -166,7 +163,7 @@ module _ (n : ℕ) (h : Hierarchy) (sources targets : List ℕ) (lent : Columns)
   refused-whole r is some = rw (← is) (refused-by r some)
 
 -- Labels that are cleared first are as long as they were, so that the call is the same.
-module _ (n : ℕ) (h : Hierarchy) (sources targets : List ℕ) (lent : Columns) (kf kb jf jb : ℕ) where
+module _ (n : ℕ) (h : Hierarchy) (sources targets : List ℕ) (lent : Answers) (kf kb jf jb : ℕ) where
   abbrev of-lengths : PathsCall
   of-lengths = paths-call n h sources targets lent (kf ∷ kb ∷ jf ∷ jb ∷ [])
 
@@ -182,5 +179,5 @@ module _ (n : ℕ) (h : Hierarchy) (sources targets : List ℕ) (lent : Columns)
       cleared-fillable f b =
           fillable n h sources targets lent (kf′ ∷ kb′ ∷ jf ∷ jb ∷ []) (ap paths-refusal is-call ∙ fine) (record { fwd = f; bwd = b })
 
-      pub filled-whole : {after : Columns} → after ≡ answers cleared → answered 0 after ≡ calc-paths of-lengths
+      pub filled-whole : {after : Answers} → after ≡ answers cleared → answered 0 after ≡ calc-paths of-lengths
       filled-whole e = ap (answered 0) (e ∙ ap answers is-call) ∙ answered-all n h sources targets lent (kf ∷ kb ∷ jf ∷ jb ∷ []) fine

@@ -4,7 +4,7 @@ use mathlib.Core.Path.{_≡_, refl}
 use Prim.Native.Nat.{ℕ}
 use lib.ListN.{replicate}
 use Rattle.rules.specs.Columns.{Hierarchy}
-use Rattle.rules.specs.Bench.{opened, L-tables}
+use Rattle.rules.specs.Bench.{opened, columns, L-tables}
 use Rattle.rules.specs.Edges.{round-trip, L-starting, edging}
 use Rattle.calc_paths.specs.Many.{PathsCall, own-places, single, many-rows, paths-refusal, answers-of, unless-refused, calc-paths}
 use Rattle.calc_paths.specs.Filling.{columns-of, paths-call, answered}
@@ -20,6 +20,9 @@ asking n h sources targets a b c d scratch =
 unfoldable pub L-hierarchy : Hierarchy
 L-hierarchy = L-tables (opened 0 2 5 0 0)
 
+unfoldable pub no-tables : Hierarchy
+no-tables = record { ranks = []; forward = columns (0 ∷ []) []; backward = columns (0 ∷ []) [] }
+
 -- two pairs of case L, in these places
 unfoldable pub two : ℕ → ℕ → ℕ → ℕ → List ℕ → PathsCall
 two a b c d scratch = asking 3 L-hierarchy (0 ∷ 1 ∷ []) (2 ∷ 1 ∷ []) a b c d scratch
@@ -29,7 +32,7 @@ unfoldable pub numbers-of : List PathsCall → List ℕ
 numbers-of cs = map (λ c. calc-paths c .number) cs
 
 unfoldable pub showing : Unit {0}
-unfolding asking L-hierarchy two numbers-of own-places single many-rows paths-refusal answers-of unless-refused calc-paths edging
+unfolding asking L-hierarchy no-tables two numbers-of own-places single many-rows paths-refusal answers-of unless-refused calc-paths edging
 showing = tt
 
 -- 0 to 2, 2 to 0, 1 to 1 and 0 to 7, with a place more of each column than is used
@@ -51,6 +54,12 @@ pub no-pairs : calc-paths (asking 3 L-hierarchy [] [] 0 0 0 0 (12 ∷ 12 ∷ 36 
 unfolding showing
 no-pairs = refl
 
+-- no nodes: every pair names one that is not there, and its places are none
+pub no-nodes : calc-paths (asking 0 no-tables (0 ∷ 1 ∷ []) (0 ∷ 0 ∷ []) 2 2 2 0 (0 ∷ 0 ∷ 32 ∷ 32 ∷ [])) ≡
+    answered 0 (columns-of (22 ∷ 22 ∷ []) (none ∷ none ∷ []) (0 ∷ 0 ∷ []) [])
+unfolding showing
+no-nodes = refl
+
 -- just enough, and one place less of each column and slice
 pub one-place-less : numbers-of
     (two 2 2 2 6 (12 ∷ 12 ∷ 36 ∷ 34 ∷ []) ∷
@@ -67,13 +76,15 @@ pub one-place-less : numbers-of
 unfolding showing
 one-place-less = refl
 
--- a refused call changes nothing; tables come before columns that differ, and these before what is lent
+-- a refused call changes nothing; tables come before columns that differ either way, and these before what is lent
 pub lowest-first : map calc-paths
     (asking 3 (L-starting (0 ∷ 1 ∷ 2 ∷ 3 ∷ [])) (0 ∷ []) [] 0 1 1 3 (12 ∷ 12 ∷ 36 ∷ 34 ∷ []) ∷
     asking 3 L-hierarchy (0 ∷ []) [] 0 1 1 3 (12 ∷ 12 ∷ 36 ∷ 34 ∷ []) ∷
+    asking 3 L-hierarchy [] (0 ∷ []) 0 1 1 3 (12 ∷ 12 ∷ 36 ∷ 34 ∷ []) ∷
     asking 3 L-hierarchy (0 ∷ []) (9 ∷ []) 0 1 1 3 (12 ∷ 12 ∷ 36 ∷ 34 ∷ []) ∷
     []) ≡
     answered 20 (columns-of [] (7 ∷ []) (7 ∷ []) (7 ∷ 7 ∷ 7 ∷ [])) ∷
+    answered 21 (columns-of [] (7 ∷ []) (7 ∷ []) (7 ∷ 7 ∷ 7 ∷ [])) ∷
     answered 21 (columns-of [] (7 ∷ []) (7 ∷ []) (7 ∷ 7 ∷ 7 ∷ [])) ∷
     answered 24 (columns-of [] (7 ∷ []) (7 ∷ []) (7 ∷ 7 ∷ 7 ∷ [])) ∷
     []

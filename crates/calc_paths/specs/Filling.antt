@@ -8,30 +8,25 @@ use Rattle.rules.specs.Columns.{Hierarchy}
 use Rattle.rules.specs.TableRules.{table-test}
 use Rattle.rules.specs.Refusals.{short, query-scratch}
 use Rattle.rules.specs.Query.{Answered, query}
-use Rattle.halves.specs.Labels.{Before}
+use Rattle.path_calculator.specs.Searching.{Earlier}
 use Rattle.query.specs.declared.Answer.{Answer}
 use Rattle.query.specs.Answers.{Tells}
-use Rattle.calc_paths.specs.Many.{Columns, PathsCall, PathsAnswered, own-places, pair-call}
+use Rattle.calc_paths.specs.Many.{Answers, PathsCall, PathsAnswered, own-places, pair-call}
 
-abbrev pub columns-of : List ℕ → List ℕ → List ℕ → List ℕ → Columns
+abbrev pub columns-of : List ℕ → List ℕ → List ℕ → List ℕ → Answers
 columns-of numbers weights lengths paths = record { numbers = numbers; weights = weights; lengths = lengths; paths = paths }
 
-abbrev pub paths-call : ℕ → Hierarchy → List ℕ → List ℕ → Columns → List ℕ → PathsCall
+abbrev pub paths-call : ℕ → Hierarchy → List ℕ → List ℕ → Answers → List ℕ → PathsCall
 paths-call n h sources targets lent scratch =
     record { nodes = n; hierarchy = h; sources = sources; targets = targets; lent = lent; scratch = scratch }
 
-abbrev pub answered : ℕ → Columns → PathsAnswered
+abbrev pub answered : ℕ → Answers → PathsAnswered
 answered number after = record { number = number; after = after }
 
 -- tables that pass, and scratch that row 24 lets pass
 pub record Checked (n : ℕ) (h : Hierarchy) (scratch : List ℕ) : Type 0 where
   pub tables : table-test n h ≡ true
   pub room : short (query-scratch n h) scratch ≡ false
-
--- labels of earlier pairs
-pub record Earlier (n base : ℕ) (fl bl : List ℕ) : Type 0 where
-  pub fwd : Before n base fl
-  pub bwd : Before n base bl
 
 -- one pair, with places of its own
 pub record Pairing (n : ℕ) (h : Hierarchy) (path fl bl fh bh : List ℕ) (base : ℕ) : Type 0 where
@@ -46,7 +41,7 @@ pub record Paired (n : ℕ) (h : Hierarchy) (s t : ℕ) (path scratch : List ℕ
   pub earlier : Earlier n (base + 2) fl′ bl′
 
 -- room for the answer of pair k; base and stamps go by pairs
-pub record Filling (n : ℕ) (h : Hierarchy) (sources targets : List ℕ) (k : ℕ) (lent : Columns) (fl bl fh bh : List ℕ) : Type 0 where
+pub record Filling (n : ℕ) (h : Hierarchy) (sources targets : List ℕ) (k : ℕ) (lent : Answers) (fl bl fh bh : List ℕ) : Type 0 where
   pub checked : Checked n h (length fl ∷ length bl ∷ length fh ∷ length bh ∷ [])
   pub source : k < length sources
   pub target : k < length targets
@@ -57,7 +52,7 @@ pub record Filling (n : ℕ) (h : Hierarchy) (sources targets : List ℕ) (k : �
   pub earlier : Earlier n (2 * k + 1) fl bl
 
 -- an answer put in its places
-unfoldable pub put-answer : ℕ → ℕ → Answered → Columns → Columns
+unfoldable pub put-answer : ℕ → ℕ → Answered → Answers → Answers
 put-answer n k a x =
     record {
       numbers = set (x .numbers) k (a .number);
@@ -66,7 +61,7 @@ put-answer n k a x =
       paths = take (k * n) (x .paths) ++ (a .path ++ drop (k * n + n) (x .paths));
     }
 
-pub record Filled (n : ℕ) (h : Hierarchy) (s t k : ℕ) (lent : Columns) (scratch : List ℕ) (after : Columns) (fl′ bl′ : List ℕ) : Type 0 where
+pub record Filled (n : ℕ) (h : Hierarchy) (s t k : ℕ) (lent : Answers) (scratch : List ℕ) (after : Answers) (fl′ bl′ : List ℕ) : Type 0 where
   pub is : after ≡ put-answer n k (query (pair-call n h s t (own-places n (lent .paths) k) scratch)) lent
   pub earlier : Earlier n (2 * k + 3) fl′ bl′
 

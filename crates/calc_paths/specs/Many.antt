@@ -12,7 +12,7 @@ use Rattle.rules.specs.Query.{query}
 use Rattle.path_calculator.specs.Searching.{call}
 
 -- What is lent for the answers: a place for each pair, and n places of the path column.
-pub record Columns : Type 0 where
+pub record Answers : Type 0 where
   pub numbers : List ℕ
   pub weights : List ℕ
   pub lengths : List ℕ
@@ -23,12 +23,12 @@ pub record PathsCall : Type 0 where
   pub hierarchy : Hierarchy
   pub sources : List ℕ
   pub targets : List ℕ
-  pub lent : Columns
+  pub lent : Answers
   pub scratch : List ℕ
 
 pub record PathsAnswered : Type 0 where
   pub number : ℕ
-  pub after : Columns
+  pub after : Answers
 
 -- the places of a pair
 unfoldable pub own-places : ℕ → List ℕ → ℕ → List ℕ
@@ -48,7 +48,7 @@ many-rows n h s t lent scratch =
     check-rows n h ++
     (row 21 (not (eqb s t)) ∷ row 24 (short (s ∷ s ∷ s ∷ s * n ∷ []) lent || short (query-scratch n h) scratch) ∷ [])
 
-abbrev pub lengths-of : Columns → List ℕ
+abbrev pub lengths-of : Answers → List ℕ
 lengths-of a = length (a .numbers) ∷ length (a .weights) ∷ length (a .lengths) ∷ length (a .paths) ∷ []
 
 unfoldable pub paths-refusal : PathsCall → ℕ
@@ -56,7 +56,7 @@ paths-refusal c =
     first-met (many-rows (c .nodes) (c .hierarchy) (length (c .sources)) (length (c .targets)) (lengths-of (c .lent)) (c .scratch))
 
 -- what the first so many pairs leave; the places beyond theirs are left alone
-unfoldable pub answers-of : PathsCall → ℕ → Columns
+unfoldable pub answers-of : PathsCall → ℕ → Answers
 answers-of c count =
     record {
       numbers = over (c .lent .numbers) (map (λ k. query (single c k) .number) (range 0 count));
@@ -65,7 +65,7 @@ answers-of c count =
       paths = over (c .lent .paths) (flat-map (λ k. query (single c k) .path) (range 0 count));
     }
 
-abbrev pub answers : PathsCall → Columns
+abbrev pub answers : PathsCall → Answers
 answers c = answers-of c (length (c .sources))
 
 -- a call that is refused changes nothing

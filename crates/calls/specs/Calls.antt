@@ -16,7 +16,7 @@ use Rattle.text.specs.Wrote.{Wrote}
 use Rattle.fast_graph_builder.specs.Outcome as build
 use Rattle.query.specs.declared.Answer.{Answer}
 use Rattle.query.specs.Outcome as query
-use Rattle.calc_paths.specs.Many.{Columns, PathsCall}
+use Rattle.calc_paths.specs.Many.{Answers, PathsCall}
 use Rattle.calc_paths.specs.Outcome as many
 
 -- A build left the number 0 and the tables h; an accepted query over these tables, in columns of any lengths, left an answer and a path.
@@ -48,10 +48,10 @@ pub record Calls : Type 0 where
   pub third-demand : (c : BuildCall) (r : ℕ) (h : Hierarchy) (q : QueryCall) (a : Answer) (path : List ℕ) → Asked c r h q a path →
       ToldNone (linkList (c .links)) q a path ⊎ ToldWalk (linkList (c .links)) q a path
   -- what many routes in one call leave of a pair is what its single query may leave
-  pub each-pair : (c : PathsCall) (r : ℕ) (after : Columns) → many.Outcome c r after → r ≡ 0 → many.EachPair c after
+  pub each-pair : (c : PathsCall) (r : ℕ) (after : Answers) → many.Outcome c r after → r ≡ 0 → many.EachPair c after
   -- any two outcomes coincide
   pub one-build : (c : BuildCall) (r s : ℕ) (h k : Hierarchy) → build.Outcome c r h → build.Outcome c s k → build.Same r s h k
   pub one-check : (n : ℕ) (h : Hierarchy) (r s : ℕ) → r ≡ check-refusal n h → s ≡ check-refusal n h → r ≡ s
   pub one-query : (q : QueryCall) (a b : Answer) (path path′ : List ℕ) → query.Outcome q a path → query.Outcome q b path′ → query.Same a b path path′
-  pub one-many : (c : PathsCall) (r s : ℕ) (x y : Columns) → many.Outcome c r x → many.Outcome c s y → many.Same r s x y
+  pub one-many : (c : PathsCall) (r s : ℕ) (x y : Answers) → many.Outcome c r x → many.Outcome c s y → many.Same r s x y
   pub one-record-answer : (input out : List ℕ) (r s : ℕ) (out′ out″ : List ℕ) → Wrote out 0 (program input) r out′ → Wrote out 0 (program input) s out″ → (r ≡ s) × (out′ ≡ out″)

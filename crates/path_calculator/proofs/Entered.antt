@@ -10,7 +10,7 @@ use Rattle.rules.specs.Columns.{Hierarchy, forward, backward, opposite, table, 
 use Rattle.rules.specs.TableRules.{used}
 use Rattle.rules.specs.Refusals.{QueryCall}
 use Rattle.rules.specs.Query.{Best, untouched, zip-ends, endList, enter, first-step, rounds, query-fuel, entered, searched}
-use Rattle.query_laws.specs.Accepted.{EndRules, EndsRules, Accepted}
+use Rattle.query_laws.specs.Accepted.{EndRules, EndsRules}
 use Rattle.query_laws.proofs.State.{counting-fits}
 use Rattle.query_laws.specs.Sound.{Both}
 use Rattle.query_laws.proofs.Accepted.{entered-both}
@@ -63,8 +63,8 @@ module _ (n : ℕ) (h : Hierarchy) (sources so targets to fl bl fh bh : List ℕ
     at-start : halves n base fl′ bl′ fh′ bh′ f b best ≡ entered c
     unfolding entered endList
     at-start =
-        let x = entered-half n sources so (s .accepted .sources) fl fh fl′ fh′ f base (s .fwd-before) enter-f in
-        let y = entered-half n targets to (s .accepted .targets) bl bh bl′ bh′ b base (s .bwd-before) enter-b in
+        let x = entered-half n sources so (s .accepted .sources) fl fh fl′ fh′ f base (s .earlier .fwd) enter-f in
+        let y = entered-half n targets to (s .accepted .targets) bl bh bl′ bh′ b base (s .earlier .bwd) enter-b in
         λ i. record { fwd = x i; bwd = y i; best = first i }
 
     pub running : Running n (h .ranks) (h .forward .starts) (h .forward .neighbours) (h .forward .weights) (h .backward .starts) (h .backward .neighbours) (h .backward .weights)
@@ -117,8 +117,8 @@ module _ {n : ℕ} {h : Hierarchy} {sources so targets to fl bl fh bh fl′ bl�
     {ranks fs fm fw bs bm bw : List ℕ} (s : Searching n h sources so targets to fl bl fh bh base) where
   pub fwd-left : Enters sources so fl fh fl′ fh′ base f → Ran n ranks fs fm fw bs bm bw fl′ bl′ fh′ bh′ base f b best fuel fl″ bl″ fh″ bh″ best′ →
       Before n (base + 2) fl″
-  fwd-left e r = r .fwd-stamps n (e .stamps n (λ v below. omega (arith, s .fwd-before v below)))
+  fwd-left e r = r .fwd-stamps n (e .stamps n (λ v below. omega (arith, s .earlier .fwd v below)))
 
   pub bwd-left : Enters targets to bl bh bl′ bh′ base b → Ran n ranks fs fm fw bs bm bw fl′ bl′ fh′ bh′ base f b best fuel fl″ bl″ fh″ bh″ best′ →
       Before n (base + 2) bl″
-  bwd-left e r = r .bwd-stamps n (e .stamps n (λ v below. omega (arith, s .bwd-before v below)))
+  bwd-left e r = r .bwd-stamps n (e .stamps n (λ v below. omega (arith, s .earlier .bwd v below)))

@@ -18,6 +18,11 @@ abbrev pub call : ℕ → Hierarchy → List ℕ → List ℕ → List ℕ → L
 call n h sources so targets to path scratch =
     record { nodes = n; hierarchy = h; sources = given sources so; targets = given targets to; path = path; scratch = scratch }
 
+-- labels of either side of earlier queries
+pub record Earlier (n base : ℕ) (fl bl : List ℕ) : Type 0 where
+  pub fwd : Before n base fl
+  pub bwd : Before n base bl
+
 -- a query that is not refused, room for its search, and a base of which no stamp is
 pub record Searching (n : ℕ) (h : Hierarchy) (sources so targets to fl bl fh bh : List ℕ) (base : ℕ) : Type 0 where
   pub path : List ℕ
@@ -27,13 +32,11 @@ pub record Searching (n : ℕ) (h : Hierarchy) (sources so targets to fl bl fh b
   pub bwd-labels : 4 * n ≤ length bl
   pub fwd-heap : 2 * (used n (table h forward) + maxEnds) ≤ length fh
   pub bwd-heap : 2 * (used n (table h backward) + maxEnds) ≤ length bh
-  pub fwd-before : Before n base fl
-  pub bwd-before : Before n base bl
+  pub earlier : Earlier n base fl bl
   pub stamps : base + 1 < 2 ^ 64
 
 -- the definition's search; the base after the next is then one of which no stamp is
 pub record Searched (n : ℕ) (h : Hierarchy) (sources so targets to fl bl fh bh : List ℕ) (base : ℕ) (fl′ bl′ fh′ bh′ : List ℕ) (best : Best) : Type 0 where
   pub is : (s : Searching n h sources so targets to fl bl fh bh base) (path scratch : List ℕ) →
       searched (call n h sources so targets to path scratch) ≡ halves n base fl′ bl′ fh′ bh′ 0 0 best
-  pub fwd-before : Before n (base + 2) fl′
-  pub bwd-before : Before n (base + 2) bl′
+  pub earlier : Earlier n (base + 2) fl′ bl′

@@ -51,7 +51,7 @@ module _ (n : ℕ) (s t : Ends) where
             unfolding ends-refusal first-met
             ends-good f = rw (fit, fit-t, low, low-t, fits, f)
 
-or-none : (b : Bool) → b ≡ (b || false)
+pub or-none : (b : Bool) → b ≡ (b || false)
 or-none true = refl
 or-none false = refl
 

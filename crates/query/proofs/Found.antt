@@ -61,7 +61,7 @@ module _ (n : ℕ) (h : Hierarchy) (sources so targets to path : List ℕ) (kf k
     is-call i = call n h sources so targets to path (ef i ∷ eb i ∷ jf ∷ jb ∷ [])
 
     pub routing : {fl bl : List ℕ} → Before n 1 fl → Before n 1 bl → Routing cleared fl bl 1
-    routing f b = record { accepted = rw is-call (accepted of-lengths fine); fwd-before = f; bwd-before = b; stamps = omega arith }
+    routing f b = record { accepted = rw is-call (accepted of-lengths fine); earlier = record { fwd = f; bwd = b }; stamps = omega arith }
 
     pub tells-routed : {x : Answer} {path′ fl bl : List ℕ} → Routed cleared x path′ fl bl 1 → Tells (query of-lengths) x path′
     tells-routed {x} {path′} t = tells-found of-lengths x path′ fine (rw is-call at (t .tells))
@@ -86,8 +86,7 @@ module _ (n : ℕ) (h : Hierarchy) (sources so targets to path fl bl fh bh : Lis
           bwd-labels = room .1;
           fwd-heap = room .2;
           bwd-heap = room .3;
-          fwd-before = r .fwd-before;
-          bwd-before = r .bwd-before;
+          earlier = r .earlier;
           stamps = r .stamps;
         }
 
@@ -108,7 +107,7 @@ module _ (n : ℕ) (h : Hierarchy) (sources so targets to path fl bl fh bh : Lis
       bwd = record { heap = bh′; len = 0; es = endList (c .targets); floor = both .bwd-floor; b = best .sum; sound = both .bwd }
 
       routed : (x : Answer) (path′ : List ℕ) → Tells (found c) x path′ → Routed c x path′ fl′ bl′ base
-      routed x path′ t = record { tells = t; fwd-before = s .fwd-before; bwd-before = s .bwd-before }
+      routed x path′ t = record { tells = t; earlier = s .earlier }
 
       pub none-found : best .node ≡ invalid → Routed c (answer 0 noWeight 0) path fl′ bl′ base
       none-found e =

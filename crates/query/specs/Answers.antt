@@ -9,8 +9,9 @@ use Rattle.rules.specs.TableRules.{used, TableRules}
 use Rattle.rules.specs.Refusals.{QueryCall}
 use Rattle.rules.specs.Query.{Answered, searched, route, handed-back}
 use Rattle.query_laws.specs.Accepted.{Accepted}
-use Rattle.halves.specs.Labels.{Before, half}
+use Rattle.halves.specs.Labels.{half}
 use Rattle.paths.specs.Climbs.{half-walk, Labelled}
+use Rattle.path_calculator.specs.Searching.{Earlier}
 use Rattle.query.specs.declared.Answer.{Answer}
 
 abbrev pub answer : ℕ → ℕ → ℕ → Answer
@@ -51,12 +52,10 @@ pub record HandedBack (n : ℕ) (h : Hierarchy) (fl bl : List ℕ) (base v sum :
 -- a query that rows 20 to 24 let pass, over labels of earlier ones
 pub record Routing (c : QueryCall) (fl bl : List ℕ) (base : ℕ) : Type 0 where
   pub accepted : Accepted c
-  pub fwd-before : Before (c .nodes) base fl
-  pub bwd-before : Before (c .nodes) base bl
+  pub earlier : Earlier (c .nodes) base fl bl
   pub stamps : base + 1 < 2 ^ 64
 
 -- its route; the labels are then of queries before the base after the next
 pub record Routed (c : QueryCall) (r : Answer) (path fl bl : List ℕ) (base : ℕ) : Type 0 where
   pub tells : Tells (found c) r path
-  pub fwd-before : Before (c .nodes) (base + 2) fl
-  pub bwd-before : Before (c .nodes) (base + 2) bl
+  pub earlier : Earlier (c .nodes) (base + 2) fl bl

@@ -17,11 +17,17 @@ lent→start c = tables→start (c .before .before .before .before .before)
 abbrev sources→start : tie.After-sources → tie.Start
 sources→start c = lent→start (c .before .before .before)
 
-abbrev route→sources : tie.After-route-arg6 → tie.After-sources
-route→sources c = (c .before .before .before .before .before .before .before) .before
+abbrev ends→sources : tie.After-targets → tie.After-sources
+ends→sources c = c .before .before
+
+abbrev asked→sources : tie.After-route-arg6 → tie.After-sources
+asked→sources c = ends→sources (c .before .before .before .before .before .before)
+
+abbrev labels→route : tie.After-slice-known7 → tie.After-route
+labels→route c = c .before .before .before .before
 
 abbrev end→route : tie.After-slice-known10 → tie.After-route
-end→route c = (c .before .before .before .before .before .before .before) .before .before .before
+end→route c = labels→route (c .before .before .before .before .before .before)
 
 returns : tie.Need-returns
 returns c =
@@ -47,7 +53,7 @@ slice-aggregate-route-4 c = search needs
 
 route-requires : tie.Need-route-requires
 route-requires c κs =
-    let o = route→sources c in
+    let o = asked→sources c in
     routing _ _ _ _ _ _ _ _ _ _ (sources→start o .pre) (o .before .before .if1 .left) (o .before .if2 .left)
 
 same-length : tie.Need-same-length
@@ -68,7 +74,7 @@ same-length-5 c = search needs
 returns-3 : tie.Need-returns-3
 returns-3 c =
     let r = end→route c in
-    let o = route→sources (r .before) in
+    let o = asked→sources (r .before) in
     let s = sources→start o in
     paired _ _ _ _ _ _ (s .pre .checked) (s .pre .places) (o .before .before .if1 .left) (o .before .if2 .left) (same-length c) (r .route .ensures)
 

@@ -10,14 +10,20 @@ use Rattle.calc_paths.proofs.calc_paths.Tie as tie
 abbrev clear2→else : tie.After-clear2 → tie.Else1
 clear2→else c = c .before .before .before .before .before .before
 
-abbrev asked→clear2 : tie.After-fill-all-arg8 → tie.After-clear2
-asked→clear2 c = (c .before .before .before .before) .before .before .before .before .before .before
+abbrev columns→clear2 : tie.After-fill-all-arg4 → tie.After-clear2
+columns→clear2 c = c .before .before .before .before .before .before
 
-abbrev paths→all : tie.After-slice-known14 → tie.After-fill-all
-paths→all c = (c .before .before .before .before) .before .before .before .before
+abbrev asked→clear2 : tie.After-fill-all-arg8 → tie.After-clear2
+asked→clear2 c = columns→clear2 (c .before .before .before .before)
+
+abbrev weights→all : tie.After-slice-known12 → tie.After-fill-all
+weights→all c = c .before .before .before .before
+
+abbrev labels→all : tie.After-slice-known15 → tie.After-fill-all
+labels→all c = weights→all (c .before .before .before .before .before .before)
 
 abbrev end→all : tie.After-slice-known18 → tie.After-fill-all
-end→all c = paths→all ((c .before .before .before .before) .before .before .before .before)
+end→all c = labels→all (c .before .before .before .before .before .before)
 
 refusal-requires : tie.Need-refusal-requires
 refusal-requires c κs = search needs

@@ -31,14 +31,20 @@ lent→start c = columns→start (c .before .before .before .before)
 abbrev loop→start : tie.At-loop Inv-loop μ-loop → tie.Start Inv-loop μ-loop
 loop→start c = lent→start (c .before)
 
-abbrev asked→in-loop : tie.After-fill-pair-arg8 Inv-loop μ-loop → tie.In-loop Inv-loop μ-loop
-asked→in-loop c = (c .before .before .before .before) .before .before .before .before
+abbrev columns→in-loop : tie.After-fill-pair-arg4 Inv-loop μ-loop → tie.In-loop Inv-loop μ-loop
+columns→in-loop c = c .before .before .before .before
 
-abbrev paths→pair : tie.After-slice-known12 Inv-loop μ-loop → tie.After-fill-pair Inv-loop μ-loop
-paths→pair c = (c .before .before .before .before) .before .before .before .before
+abbrev asked→in-loop : tie.After-fill-pair-arg8 Inv-loop μ-loop → tie.In-loop Inv-loop μ-loop
+asked→in-loop c = columns→in-loop (c .before .before .before .before)
+
+abbrev weights→pair : tie.After-slice-known10 Inv-loop μ-loop → tie.After-fill-pair Inv-loop μ-loop
+weights→pair c = c .before .before .before .before
+
+abbrev labels→pair : tie.After-slice-known13 Inv-loop μ-loop → tie.After-fill-pair Inv-loop μ-loop
+labels→pair c = weights→pair (c .before .before .before .before .before .before)
 
 abbrev end→pair : tie.After-slice-known16 Inv-loop μ-loop → tie.After-fill-pair Inv-loop μ-loop
-end→pair c = paths→pair ((c .before .before .before .before) .before .before .before .before)
+end→pair c = labels→pair (c .before .before .before .before .before .before)
 
 loop-holds : tie.Need-loop-holds Inv-loop μ-loop
 loop-holds c = going-first _ _ _ _ _ _ _ _ _ (lent→start c .pre)

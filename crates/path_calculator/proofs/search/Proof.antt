@@ -31,8 +31,11 @@ known8→start c = enter→start (enter2→enter (known8→enter2 c))
 abbrev rounds→enter2 : tie.After-rounds → tie.After-enter2
 rounds→enter2 c = known8→enter2 (c .before .before .before .before .before .before .before)
 
+abbrev labels→rounds : tie.After-slice-known10 → tie.After-rounds
+labels→rounds c = c .before .before .before .before
+
 abbrev known12→rounds : tie.After-slice-known12 → tie.After-rounds
-known12→rounds c = c .before .before .before .before .before .before .before .before
+known12→rounds c = labels→rounds (c .before .before .before .before)
 
 first-step-requires : tie.Need-first-step-requires
 first-step-requires c κs =
@@ -119,8 +122,11 @@ returns c =
       is = λ s.
           searched-is _ _ _ _ _ _ _ _ _ _ _ s _ _ _ _ _ _ _ (f .enter .ensures) (b .enter2 .ensures) first
           (f .enter .kept .1 .1 .0) (b .enter2 .kept .1 .1 .0) (f .enter .kept .1 .1 .1 .0) (b .enter2 .kept .1 .1 .1 .0) _ _ _ _ _ (r .rounds .ensures);
-      fwd-before = fwd-left (enter→start f .pre) (f .enter .ensures) (r .rounds .ensures);
-      bwd-before = bwd-left (enter→start f .pre) (b .enter2 .ensures) (r .rounds .ensures);
+      earlier =
+          record {
+            fwd = fwd-left (enter→start f .pre) (f .enter .ensures) (r .rounds .ensures);
+            bwd = bwd-left (enter→start f .pre) (b .enter2 .ensures) (r .rounds .ensures);
+          };
     }
 
 pub search-spec : {M : Type 1} → statement M

@@ -10,14 +10,20 @@ use Rattle.query.proofs.calc_path.Tie as tie
 abbrev clear2→else : tie.After-clear2 → tie.Else1
 clear2→else c = c .before .before .before .before .before .before
 
+abbrev lent→clear2 : tie.After-slice-known7 → tie.After-clear2
+lent→clear2 c = c .before .before
+
 abbrev route→clear2 : tie.After-route → tie.After-clear2
-route→clear2 c = c .before .before .before .before .before .before .before .before
+route→clear2 c = lent→clear2 (c .before .before .before .before .before .before)
 
 abbrev route→clear : tie.After-route → tie.After-clear
 route→clear c = route→clear2 c .before .before .before .before
 
+abbrev labels→route : tie.After-slice-known9 → tie.After-route
+labels→route c = c .before .before .before .before
+
 abbrev end→route : tie.After-slice-known12 → tie.After-route
-end→route c = c .before .before .before .before .before .before .before .before .before .before
+end→route c = labels→route (c .before .before .before .before .before .before)
 
 refusal-requires : tie.Need-refusal-requires
 refusal-requires c κs = search needs

@@ -3,14 +3,24 @@ use borrow.Author.Needs.{needs}
 use Rattle.ratmanoep.proofs.ratmanoep_build_with_order.Statement.{statement}
 use Rattle.ratmanoep.proofs.ratmanoep_build_with_order.Tie as tie
 
+-- Back over the slices that came back, three at a time.
+abbrev known21→build : tie.After-slice-known21 → tie.After-build-with-order
+known21→build c = c .before .before .before .before .before .before
+
 abbrev known24→build : tie.After-slice-known24 → tie.After-build-with-order
-known24→build c = c .before .before .before .before .before .before .before .before .before .before .before .before
+known24→build c = known21→build (c .before .before .before .before .before .before)
+
+abbrev known27→build : tie.After-slice-known27 → tie.After-build-with-order
+known27→build c = known24→build (c .before .before .before .before .before .before)
 
 abbrev known30→build : tie.After-slice-known30 → tie.After-build-with-order
-known30→build c = known24→build (c .before .before .before .before .before .before .before .before .before .before .before .before)
+known30→build c = known27→build (c .before .before .before .before .before .before)
+
+abbrev known33→build : tie.After-slice-known33 → tie.After-build-with-order
+known33→build c = known30→build (c .before .before .before .before .before .before)
 
 abbrev end→build : tie.After-slice-known36 → tie.After-build-with-order
-end→build c = known30→build (c .before .before .before .before .before .before .before .before .before .before .before .before)
+end→build c = known33→build (c .before .before .before .before .before .before)
 
 build-with-order-requires : tie.Need-build-with-order-requires
 build-with-order-requires c κs = search needs

@@ -3,8 +3,11 @@ use borrow.Author.Needs.{needs}
 use Rattle.ratmanoep.proofs.ratmanoep_calc_path.Statement.{statement}
 use Rattle.ratmanoep.proofs.ratmanoep_calc_path.Tie as tie
 
+abbrev labels→fill : tie.After-slice-known7 → tie.After-fill-path
+labels→fill c = c .before .before .before .before
+
 abbrev end→fill : tie.After-slice-known10 → tie.After-fill-path
-end→fill c = c .before .before .before .before .before .before .before .before .before .before
+end→fill c = labels→fill (c .before .before .before .before .before .before)
 
 fill-path-requires : tie.Need-fill-path-requires
 fill-path-requires c κs = search needs
