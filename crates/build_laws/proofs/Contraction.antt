@@ -1,23 +1,25 @@
 -- One contraction keeps distances: rules 3 and 4.
 use mathlib.Core.Path.{_≡_, refl, sym, _∙_, ap}
 use mathlib.Core.Logic.{_⊎_, inl, inr}
+use mathlib.Core.Bool.{true}
 use mathlib.Core.List.{List, [], _∷_, List·Memᴰ·head, List·Memᴰ·tail, List·Memᴰ·cases-cons, List·Memᴰ·not-nil, List·Memᴰ·eq-of-singleton}
-use Prim.Native.Nat.{ℕ, _+_, _≤_}
+use Prim.Native.Nat.{ℕ, _+_, _≤_, _<_}
 use native.Mathlib.Omega.{arith}
 use native.Mathlib.Decide.{ℕ-discrete}
 use lib.Dec.{eqb, ltb, leb}
 use lib.ListN.{length}
 use borrow.Author.Tests.{eqb-true, eqb-false, ltb-false, leb-true}
-use Rattle.rules.specs.Numbers.{maxWeight}
-use Rattle.rules.specs.Graph.{Arc, outs, ins, Loopless, addOrReduce, disconnect}
+use Rattle.rules.specs.Numbers.{maxWeight, noWeight}
+use Rattle.rules.specs.Graph.{Arc, outs, ins, Loopless, addOrReduce, kept, disconnect}
 use Rattle.rules.specs.Search.{init, Found, find-max-weight}
-use Rattle.rules.specs.Build.{went, in-pool, Contracting, shortcut, add, unless-witness, ask, within-sum, pair, pairs-of, handle-shortcuts, contract-node}
+use Rattle.rules.specs.Build.{went, in-pool, Contracting, shortcut, add, unless-kept, within-sum, unless-witness, ask, pair, pairs-of, handle-shortcuts, contract-node}
 use Rattle.rules.specs.Lists.{In}
+use Rattle.rules.proofs.Arcs.{kept-in}
 use Rattle.rules.proofs.Cases.{on-test}
 use Rattle.rules.proofs.Steps.{went-same, refused-not-went, both-went}
 use Rattle.walks.specs.Paths.{Path, stay, step, Within}
 use Rattle.walks.proofs.Paths.{Lighter, lighter-refl, lighter-trans, lighter-within, within-join, within-more, edge-within, within-stay, said}
-use Rattle.search_laws.proofs.Graphs.{Arcs, Avoiding, avoiding-lighter, lighter-after-add, added-within, in-ins, outs-in, ins-in, disconnected-in}
+use Rattle.search_laws.proofs.Graphs.{Arcs, by-ends, Avoiding, avoiding-lighter, lighter-after-add, added-within, in-ins, outs-in, ins-in, disconnected-in}
 use Rattle.search_laws.proofs.Searches.{Walked, walked-lighter, init-walked, search-walked, answer-walked}
 
 -- a graph that the pool holds
@@ -33,48 +35,51 @@ module _ (pool limit v : ℕ) where
   abbrev pub sought : Arc → Arc → Contracting → Found
   sought a b c = find-max-weight (c .graph) v limit (shortcut pool limit v a b .head) (shortcut pool limit v a b .weight) (c .search)
 
-  -- A pair that went: it was dropped, or a witness was found, or its shortcut was added.
+  -- A pair that went: it was dropped, or a witness was found, or an arc of no more was there, or its shortcut was added.
+  pub data Put (a b : Arc) (c k : Contracting) : Type 0 where
+    witness : k .graph ≡ c .graph → sought a b c .weight ≤ a .weight + b .weight → Put a b c k
+    there : k .graph ≡ c .graph → kept (shortcut pool limit v a b) (c .graph) ≡ true → Put a b c k
+    new : k .graph ≡ addOrReduce (shortcut pool limit v a b) (c .graph) → a .weight + b .weight ≤ maxWeight → length (k .graph) ≤ pool → Put a b c k
+
   pub record Sought (a b : Arc) (c k : Contracting) : Type 0 where
     pub apart : a .tail ≡ b .head → ⊥
-    pub small : a .weight + b .weight ≤ maxWeight
     pub search : k .search ≡ sought a b c .search
-    pub graph :
-        ((k .graph ≡ c .graph) × (sought a b c .weight ≤ a .weight + b .weight)) ⊎
-        ((k .graph ≡ addOrReduce (shortcut pool limit v a b) (c .graph)) × (length (k .graph) ≤ pool))
+    pub put : Put a b c k
 
   pub pair-went : (a b : Arc) (c k : Contracting) → pair pool limit v a b c ≡ went k → ((a .tail ≡ b .head) × (k ≡ c)) ⊎ Sought a b c k
-  unfolding pair within-sum ask unless-witness add shortcut
+  unfolding pair ask unless-witness within-sum unless-kept add shortcut
   pair-went a b c k e =
       on-test (eqb (a .tail) (b .head))
       (λ t. inl (eqb-true (a .tail) (b .head) t, sym (went-same (rw (t, pair) at e))))
       (λ t.
+      let apart = eqb-false (a .tail) (b .head) t in
       inr
-      (on-test (ltb maxWeight (a .weight + b .weight))
-      (λ u. absurd (refused-not-went (rw (u, within-sum) at (rw (t, pair) at e))))
-      (λ u.
-      on-test (leb (sought a b c .weight) (a .weight + b .weight))
+      (on-test (leb (sought a b c .weight) (a .weight + b .weight))
       (λ w.
-      let same = sym (went-same (rw (w, unless-witness) at (rw (u, within-sum) at (rw (t, pair) at e)))) in
+      let same = sym (went-same (rw (t, pair, w, unless-witness) at e)) in
       record {
-        apart = eqb-false (a .tail) (b .head) t;
-        small = ltb-false maxWeight (a .weight + b .weight) u;
+        apart = apart;
         search = ap (λ x. x .search) same;
-        graph = inl (ap (λ x. x .graph) same, leb-true (sought a b c .weight) (a .weight + b .weight) w);
+        put = witness (ap (λ x. x .graph) same) (leb-true (sought a b c .weight) (a .weight + b .weight) w);
       })
       (λ w.
-      let added = rw (w, unless-witness) at (rw (u, within-sum) at (rw (t, pair) at e)) in
+      on-test (ltb maxWeight (a .weight + b .weight))
+      (λ u.
+      on-test (kept (shortcut pool limit v a b) (c .graph))
+      (λ y.
+      let same = sym (went-same (rw (t, pair, w, unless-witness, u, within-sum, y, unless-kept) at e)) in
+      record { apart = apart; search = ap (λ x. x .search) same; put = there (ap (λ x. x .graph) same) y })
+      (λ y. absurd (refused-not-went (rw (t, pair, w, unless-witness, u, within-sum, y, unless-kept) at e))))
+      (λ u.
+      let added = rw (t, pair, w, unless-witness, u, within-sum) at e in
       let steps = both-went (in-pool pool (addOrReduce (shortcut pool limit v a b) (c .graph))) _ k added in
       let held = pool-held pool (addOrReduce (shortcut pool limit v a b) (c .graph)) (steps .0) (steps .1) in
       let same = sym (went-same (steps .2)) in
+      let graph = ap (λ x. x .graph) same ∙ held .0 in
       record {
-        apart = eqb-false (a .tail) (b .head) t;
-        small = ltb-false maxWeight (a .weight + b .weight) u;
+        apart = apart;
         search = ap (λ x. x .search) same;
-        graph =
-            inr (
-              ap (λ x. x .graph) same ∙ held .0,
-              rw (ap (λ x. x .graph) same ∙ held .0) (held .1),
-            );
+        put = new graph (ltb-false maxWeight (a .weight + b .weight) u) (rw graph (held .1));
       }))))
 
   -- What every shortcut of a contraction keeps, the contraction keeps.
@@ -90,13 +95,12 @@ module _ (pool limit v : ℕ) where
         elim (pair-went a b c k e) [
           | inl dropped ↦ rw (dropped .1) x
           | inr s ↦
-              elim (s .graph) [
-                | inl kept ↦ rw (kept .0) x
-                | inr new ↦
-                    rw (new .0)
-                    (adds a b (c .graph) (List·Memᴰ·head refl) (List·Memᴰ·head refl) (s .apart) (s .small)
-                    (rw (new .0) at (new .1))
-                    x)
+              elim (s .put) [
+                | witness same _ ↦ rw same x
+                | there same _ ↦ rw same x
+                | new added small room ↦
+                    rw added
+                    (adds a b (c .graph) (List·Memᴰ·head refl) (List·Memᴰ·head refl) (s .apart) small (rw added at room) x)
               ]
         ]
 
@@ -136,41 +140,46 @@ module _ (pool limit v : ℕ) where
           | inl dropped ↦ rw (dropped .1) x
           | inr s ↦
               let y = search-walked (c .graph) v away limit (shortcut pool limit v a b .head) (shortcut pool limit v a b .weight) (c .search) x in
-              elim (s .graph) [
-                | inl kept ↦ rw (s .search, kept .0) y
-                | inr new ↦
-                    rw (s .search, new .0)
+              elim (s .put) [
+                | witness same _ ↦ rw (s .search, same) y
+                | there same _ ↦ rw (s .search, same) y
+                | new added _ _ ↦
+                    rw (s .search, added)
                     (walked-lighter (avoiding-lighter v (c .graph) _ (lighter-after-add (shortcut pool limit v a b) (c .graph))) y)
               ]
         ]
 
-    -- a witness, or the shortcut itself
+    -- a witness, the arc that was there, or the shortcut itself
     pair-covers : (b : Arc) (c k : Contracting) → pair pool limit v a b c ≡ went k →
-        Walked (Avoiding v (c .graph)) (a .tail) (c .search) → (b .head ≡ v → ⊥) → (a .tail ≡ b .head → ⊥) →
+        Walked (Avoiding v (c .graph)) (a .tail) (c .search) → a .weight + b .weight < noWeight → (b .head ≡ v → ⊥) → (a .tail ≡ b .head → ⊥) →
         Within (Avoiding v (k .graph)) (a .tail) (b .head) (a .weight + b .weight)
     unfolding shortcut
-    pair-covers b c k e x off apart =
+    pair-covers b c k e x modest off apart =
         elim (pair-went a b c k e) [
           | inl dropped ↦ absurd (apart (dropped .0))
           | inr s ↦
-              elim (s .graph) [
-                | inl kept ↦
-                    rw (kept .0)
+              elim (s .put) [
+                | witness same found ↦
+                    rw same
                     (within-more
-                    (answer-walked (c .graph) v away limit (b .head) (a .weight + b .weight) (c .search) x
-                    (omega (arith, kept .1, s .small)))
-                    (kept .1))
-                | inr new ↦
+                    (answer-walked (c .graph) v away limit (b .head) (a .weight + b .weight) (c .search) x (omega arith))
+                    found)
+                | there same test ↦
+                    let y = kept-in (shortcut pool limit v a b) (c .graph) test in
+                    rw same
+                    (within-more
+                    (edge-within (y .0 .centre, disconnected-in _ v _ (rw (by-ends (y .0) (y .2) (y .3)) (y .1)) away off))
+                    (y .4))
+                | new added _ _ ↦
                     let f = added-within (shortcut pool limit v a b) (c .graph) in
-                    rw (new .0)
-                    (within-more (edge-within (f .1 .0, disconnected-in _ v _ (f .1 .1) away off)) (f .2))
+                    rw added (within-more (edge-within (f .1 .0, disconnected-in _ v _ (f .1 .1) away off)) (f .2))
               ]
         ]
 
     -- one in-arc with each out-arc
     pub record Paired (bs : List Arc) (c k : Contracting) : Type 0 where
       pub lighter : Lighter (Arcs (c .graph)) (Arcs (k .graph))
-      pub covers : (b : Arc) → In b bs → (b .head ≡ v → ⊥) → (a .tail ≡ b .head → ⊥) →
+      pub covers : (b : Arc) → In b bs → a .weight + b .weight < noWeight → (b .head ≡ v → ⊥) → (a .tail ≡ b .head → ⊥) →
           Within (Avoiding v (k .graph)) (a .tail) (b .head) (a .weight + b .weight)
 
     pairs-of-cover : (bs : List Arc) (c k : Contracting) → pairs-of pool limit v a bs c ≡ went k →
@@ -193,19 +202,19 @@ module _ (pool limit v : ℕ) where
               (lighter-refl (Arcs (c .graph))))
               (rest .lighter);
           covers =
-              λ b′ m off apart.
+              λ b′ m modest off apart.
               elim (List·Memᴰ·cases-cons m) [
                 | inl here ↦
                     lighter-within (avoiding-lighter v (s .0 .graph) (k .graph) (rest .lighter))
-                    (rw here (pair-covers b c (s .0) (s .1) x (rw here at off) (rw here at apart)))
-                | inr later ↦ rest .covers b′ later off apart
+                    (rw here (pair-covers b c (s .0) (s .1) x (rw here at modest) (rw here at off) (rw here at apart)))
+                | inr later ↦ rest .covers b′ later modest off apart
               ];
         }
 
   -- Every pair, and every arc, after rule 3.
   pub record Handled (xs bs g k : List Arc) : Type 0 where
     pub lighter : Lighter (Arcs g) (Arcs k)
-    pub covers : (a b : Arc) → In a xs → In b bs → (a .tail ≡ v → ⊥) → (b .head ≡ v → ⊥) → (a .tail ≡ b .head → ⊥) →
+    pub covers : (a b : Arc) → In a xs → In b bs → a .weight + b .weight < noWeight → (a .tail ≡ v → ⊥) → (b .head ≡ v → ⊥) → (a .tail ≡ b .head → ⊥) →
         Within (Avoiding v k) (a .tail) (b .head) (a .weight + b .weight)
 
   pub shortcuts-cover : (xs bs g k : List Arc) → handle-shortcuts pool limit v xs bs g ≡ went k →
@@ -224,62 +233,64 @@ module _ (pool limit v : ℕ) where
       record {
         lighter = lighter-trans (here .lighter) (rest .lighter);
         covers =
-            λ a′ b′ ma mb offa offb apart.
+            λ a′ b′ ma mb modest offa offb apart.
             elim (List·Memᴰ·cases-cons ma) [
               | inl same ↦
                   lighter-within (avoiding-lighter v (s .0 .graph) k (rest .lighter))
-                  (rw same (here .covers b′ mb offb (rw same at apart)))
-              | inr later ↦ rest .covers a′ b′ later mb offa offb apart
+                  (rw same (here .covers b′ mb (rw same at modest) offb (rw same at apart)))
+              | inr later ↦ rest .covers a′ b′ later mb modest offa offb apart
             ];
       }
 
-module _ (pool limit v : ℕ) (g k : List Arc) (loopless : Loopless g) (e : contract-node pool limit v g ≡ went k) where
+module _ (pool limit v : ℕ) (g k : List Arc) (e : contract-node pool limit v g ≡ went k) where
   pub contracted : (m : List Arc) × (handle-shortcuts pool limit v (ins g v) (outs g v) g ≡ went m) × (k ≡ disconnect m v)
   unfolding contract-node
   contracted =
       let s = both-went (handle-shortcuts pool limit v (ins g v) (outs g v) g) _ k e in
       (s .0, s .1, sym (went-same (s .2)))
 
-  handled : Handled pool limit v (ins g v) (outs g v) g (contracted .0)
-  handled =
-      shortcuts-cover pool limit v (ins g v) (outs g v) g (contracted .0) (contracted .1)
-      (λ a m at. let i = in-ins g v a m in loopless a (i .0) (at ∙ sym (i .1)))
+  -- No arc is a loop, or weighs so much that a pair's sum could be the mark.
+  module _ (loopless : Loopless g) (light : (x : Arc) → In x g → x .weight ≤ maxWeight) where
+    handled : Handled pool limit v (ins g v) (outs g v) g (contracted .0)
+    handled =
+        shortcuts-cover pool limit v (ins g v) (outs g v) g (contracted .0) (contracted .1)
+        (λ a m at. let i = in-ins g v a m in loopless a (i .0) (at ∙ sym (i .1)))
 
-  -- an arc that does not touch v
-  past : (a b w : ℕ) → Arcs g a b w → (a ≡ v → ⊥) → (b ≡ v → ⊥) → Within (Arcs k) a b w
-  past a b w arc offa offb =
-      let f = handled .lighter a b w arc in
-      rw (contracted .2) (within-more (edge-within (f .1 .0, disconnected-in _ v _ (f .1 .1) offa offb)) (f .2))
+    -- an arc that does not touch v
+    past : (a b w : ℕ) → Arcs g a b w → (a ≡ v → ⊥) → (b ≡ v → ⊥) → Within (Arcs k) a b w
+    past a b w arc offa offb =
+        let f = handled .lighter a b w arc in
+        rw (contracted .2) (within-more (edge-within (f .1 .0, disconnected-in _ v _ (f .1 .1) offa offb)) (f .2))
 
-  -- in at v and out again
-  through : (a d x y : ℕ) → Arcs g a v x → Arcs g v d y → (a ≡ v → ⊥) → (d ≡ v → ⊥) → (a ≡ d → ⊥) → Within (Arcs k) a d (x + y)
-  through a d x y into out offa offd apart =
-      rw (contracted .2)
-      (handled .covers _ _ (ins-in g v _ (into .1) refl) (outs-in g v _ (out .1) refl) offa offd apart)
+    -- in at v and out again
+    through : (a d x y : ℕ) → Arcs g a v x → Arcs g v d y → (a ≡ v → ⊥) → (d ≡ v → ⊥) → (a ≡ d → ⊥) → Within (Arcs k) a d (x + y)
+    through a d x y into out offa offd apart =
+        rw (contracted .2)
+        (handled .covers _ _ (ins-in g v _ (into .1) refl) (outs-in g v _ (out .1) refl) (omega (arith, light _ (into .1), light _ (out .1))) offa offd apart)
 
-  -- Along a path: from a node other than v the contracted graph follows for no more, and at v an arc that led there is
-  -- taken along, until the next arc leads out again.
-  along : {a b w : ℕ} → Path (Arcs g) b a w → (b ≡ v → ⊥) →
-      ((a ≡ v → ⊥) → Within (Arcs k) a b w) ×
-      (a ≡ v → (u x : ℕ) → Arcs g u v x → (u ≡ v → ⊥) → Within (Arcs k) u b (x + w))
-  along (stay same none) offb =
-      (λ off. within-more (within-stay same) (omega arith), λ at. absurd (offb (sym same ∙ at)))
-  along {a} {b} {w} (step c x y arc sum p) offb =
-      let rest = along p offb in (
-        λ off.
-            elim (ℕ-discrete c v) [
-              | yes at ↦ within-more (rest .1 at a x (rw at at arc) off) (omega arith)
-              | no offc ↦ within-more (within-join (past a c x arc off offc) (rest .0 offc)) (omega arith)
-            ],
-        λ at u z into offu.
-            let offc : c ≡ v → ⊥ = λ e. loopless _ (arc .1) (at ∙ sym e) in
-            let onward = rest .0 offc in
-            elim (ℕ-discrete u c) [
-              | yes same ↦ (onward .0, said (onward .1) same refl, omega (arith, onward .2))
-              | no apart ↦ within-more (within-join (through u c z x into (rw at at arc) offu offc apart) onward) (omega arith)
-            ],
-      )
+    -- Along a path: from a node other than v the contracted graph follows for no more, and at v an arc that led there is
+    -- taken along, until the next arc leads out again.
+    along : {a b w : ℕ} → Path (Arcs g) b a w → (b ≡ v → ⊥) →
+        ((a ≡ v → ⊥) → Within (Arcs k) a b w) ×
+        (a ≡ v → (u x : ℕ) → Arcs g u v x → (u ≡ v → ⊥) → Within (Arcs k) u b (x + w))
+    along (stay same none) offb =
+        (λ off. within-more (within-stay same) (omega arith), λ at. absurd (offb (sym same ∙ at)))
+    along {a} {b} {w} (step c x y arc sum p) offb =
+        let rest = along p offb in (
+          λ off.
+              elim (ℕ-discrete c v) [
+                | yes at ↦ within-more (rest .1 at a x (rw at at arc) off) (omega arith)
+                | no offc ↦ within-more (within-join (past a c x arc off offc) (rest .0 offc)) (omega arith)
+              ],
+          λ at u z into offu.
+              let offc : c ≡ v → ⊥ = λ e. loopless _ (arc .1) (at ∙ sym e) in
+              let onward = rest .0 offc in
+              elim (ℕ-discrete u c) [
+                | yes same ↦ (onward .0, said (onward .1) same refl, omega (arith, onward .2))
+                | no apart ↦ within-more (within-join (through u c z x into (rw at at arc) offu offc apart) onward) (omega arith)
+              ],
+        )
 
-  -- The contraction lemma.
-  pub contraction-keeps : {a b w : ℕ} → Path (Arcs g) b a w → (a ≡ v → ⊥) → (b ≡ v → ⊥) → Within (Arcs k) a b w
-  contraction-keeps p offa offb = along p offb .0 offa
+    -- The contraction lemma.
+    pub contraction-keeps : {a b w : ℕ} → Path (Arcs g) b a w → (a ≡ v → ⊥) → (b ≡ v → ⊥) → Within (Arcs k) a b w
+    contraction-keeps p offa offb = along p offb .0 offa

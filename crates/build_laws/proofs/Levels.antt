@@ -201,7 +201,7 @@ module _ (order : List ℕ) (ls : List Link) where
     pub contracted-ok : (k : List Arc) → contract-node pool limit v g ≡ went k → GraphOk order ls (with-level levels v g) (suc r) (suc r) k
     unfolding disconnect
     contracted-ok k e =
-        let c = contracted pool limit v g k (ok .loopless) e in
+        let c = contracted pool limit v g k e in
         let x =
         shortcuts-keep pool limit v (GraphOk order ls (with-level levels v g) r (suc r)) (ins g v) (outs g v) g (c .0)
         (λ a b k ma mb off small _ y. adds a b k ma mb off small y)

@@ -12,7 +12,7 @@ use Rattle.rules.specs.Columns.{linkList}
 use Rattle.rules.specs.Refusals.{BuildCall}
 use Rattle.rules.specs.Graph.{Arc, outs, ins, addOrReduce}
 use Rattle.rules.specs.Search.{init, find-max-weight}
-use Rattle.rules.specs.Build.{Step, went, refused, and-then, in-pool, from-links, graph-of, Contracting, shortcut, add, unless-witness, ask, within-sum, pair, pairs-of, handle-shortcuts, contract-node, Level, Building, rank-step, rank-steps, contraction}
+use Rattle.rules.specs.Build.{Step, went, refused, and-then, in-pool, from-links, graph-of, Contracting, shortcut, add, unless-kept, within-sum, unless-witness, ask, pair, pairs-of, handle-shortcuts, contract-node, Level, Building, rank-step, rank-steps, contraction}
 use Rattle.rules.proofs.Cases.{on-test}
 use Rattle.rules.proofs.Ranges.{distinct-decides}
 use Rattle.rules.proofs.Ranks.{rank-stepped, with-level}
@@ -46,19 +46,19 @@ module _ (p q limit v : ℕ) (P : List Arc → Type 0) (in-p : (g : List Arc) �
   adding xs bs more a b g ma mb off small _ x = more a b g ma mb off small x
 
   pair-same : (a b : Arc) (c : Contracting) → More (a ∷ []) (b ∷ []) → P (c .graph) → pair p limit v a b c ≡ pair q limit v a b c
-  unfolding pair within-sum ask unless-witness add shortcut
+  unfolding pair ask unless-witness within-sum unless-kept add shortcut
   pair-same a b c more x =
       on-test (eqb (a .tail) (b .head))
       (λ t. rw (t, pair))
       (λ t.
-      on-test (ltb maxWeight (a .weight + b .weight))
-      (λ u. rw (t, u, pair, within-sum))
-      (λ u.
       let f = find-max-weight (c .graph) v limit (b .head) (a .weight + b .weight) (c .search) in
       on-test (leb (f .weight) (a .weight + b .weight))
-      (λ w. rw (t, u, w, pair, within-sum, unless-witness))
+      (λ w. rw (t, w, pair, unless-witness))
       (λ w.
-      rw (t, u, w, pair, within-sum, unless-witness)
+      on-test (ltb maxWeight (a .weight + b .weight))
+      (λ u. rw (t, w, u, pair, unless-witness, within-sum))
+      (λ u.
+      rw (t, w, u, pair, unless-witness, within-sum)
       (ap (λ m. and-then m (λ g. went (record { graph = g; search = f .search })))
       (pool-same (addOrReduce (shortcut q limit v a b) (c .graph))
       (more a b (c .graph) (List·Memᴰ·head refl) (List·Memᴰ·head refl) (eqb-false (a .tail) (b .head) t) (ltb-false maxWeight (a .weight + b .weight) u) x))))))

@@ -109,7 +109,7 @@ module _ (c : BuildCall) (ls : List Link) (d : ℕ) (differ : Differ (c .order) 
 
     follow : {a e w : ℕ} → In a vs → In e vs → Path (Arcs (b .graph)) e a w → (a ≡ v → ⊥) → (e ≡ v → ⊥) → LevelUpDown K a e w
     follow ma me p offa offe =
-        let q = contraction-keeps (c .pool) (c .limit) v (b .graph) (k .graph) (ok .graph .loopless) (s .contracts) p offa offe in
+        let q = contraction-keeps (c .pool) (c .limit) v (b .graph) (k .graph) (s .contracts) (ok .graph .loopless) (λ x m. ok .graph .arcs x m .high) p offa offe in
         let r = claim _ _ _ ma me (q .1) in
         (r .0, r .1, r .2, r .3, r .4, omega (arith, r .5, q .2))
 

@@ -1,7 +1,7 @@
 -- Over the out-arcs of v, for one in-arc: what is left, and that with what was done it comes to the whole.
 use mathlib.Core.Path.{_≡_, refl, sym, _∙_, ap}
 use mathlib.Core.List.{List, [], _∷_, List·Memᴰ·head, cons-eq-cons}
-use Prim.Native.Nat.{ℕ, zero, suc, _+_, _*_, _<_}
+use Prim.Native.Nat.{ℕ, zero, suc, _+_, _*_, _≤_, _<_}
 use native.Mathlib.Omega.{arith}
 use lib.ListN.{length, getD, drop}
 use Rattle.rules.specs.Numbers.{invalid}
@@ -16,7 +16,7 @@ use Rattle.graph.specs.declared.preparation_graph.Pool.{Pool}
 use Rattle.graph.specs.Stands.{Stands, Unmoved}
 use Rattle.graph.proofs.Staying.{unmoved-refl, unmoved-trans}
 use Rattle.graph.proofs.Along.{Along, along-first, along-next, along-stays}
-use Rattle.search.specs.Searching.{World, Lent, lent, Standing}
+use Rattle.search.specs.Searching.{mostSum, World, Lent, lent, Standing}
 use Rattle.search.proofs.Walks.{Left, left-along, left-fit}
 use Rattle.node_contractor.specs.declared.Work.{Work}
 use Rattle.node_contractor.specs.declared.Contracted.{Contracted}
@@ -114,6 +114,9 @@ module _ {m₀ : Lent} {pool : ℕ} {x₀ : Work} {v tail weight limit n : ℕ} 
           head-off = p .at .heads-off b b-in;
         }
 
+    pub outs-sum : weight + getD weights place 0 ≤ mostSum
+    outs-sum = omega (arith, p .at .light, left-fit outs-left on .light)
+
     abbrev whole : Step Contracting
     whole = pair-of pool limit v tail (getD arcs (6 * place + 1) 0) (weight + getD weights place 0) (contracting (y .graph) (y .search))
 
@@ -123,7 +126,7 @@ module _ {m₀ : Lent} {pool : ℕ} {x₀ : Work} {v tail weight limit n : ℕ} 
     module _ {m′ : Lent} {r : Contracted}
         (pairs : Pairs (lent arcs weights nodes labels heap) m′ pool x v tail (getD arcs (6 * place + 1) 0) (weight + getD weights place 0) limit r) where
       stepped : Steps x m′ v (y .midst .standing .stands) whole r
-      stepped = pairs n (y .graph) (y .search) outs-pairing
+      stepped = pairs n (y .graph) (y .search) outs-pairing outs-sum
 
       pub outs-stop : (number : ℕ) → r ≡ Refused number → pairs-of pool limit v a (outs g v) (contracting g s) ≡ refused number
       outs-stop number e =

@@ -1,25 +1,28 @@
 -- One pair, and what a step comes to.
-use mathlib.Core.Path.{_≡_, refl, _∙_}
+use mathlib.Core.Path.{_≡_, refl, sym, _∙_, ap}
+use mathlib.Core.Bool.{Bool, true, false}
 use mathlib.Core.List.{List}
 use Prim.Native.Nat.{ℕ, _+_, _≤_, _<_}
 use native.Mathlib.Omega.{arith}
 use borrow.Author.Tests.{eq-eqb, ne-eqb, lt-ltb, le-ltb, le-leb, lt-leb}
 use lib.ListN.{length}
 use Rattle.rules.specs.Numbers.{maxWeight}
-use Rattle.rules.specs.Graph.{Arc, addOrReduce}
+use Rattle.rules.specs.Lists.{In}
+use Rattle.rules.specs.Graph.{Arc, addOrReduce, kept}
 use Rattle.rules.specs.Search.{Search, Found, find-max-weight}
-use Rattle.rules.specs.Build.{Step, went, refused, and-then, in-pool, Contracting, shortcut, add, unless-witness, ask, within-sum, pair}
+use Rattle.rules.specs.Build.{Step, went, refused, and-then, in-pool, Contracting, shortcut, add, unless-kept, within-sum, unless-witness, ask, pair}
+use Rattle.search_laws.proofs.Graphs.{kept-joins, none-reduced}
 use Rattle.lists.specs.Memory.{Memory, memory, arc}
 use Rattle.graph.specs.declared.preparation_graph.Pool.{Pool}
 use Rattle.graph.specs.declared.preparation_graph.Added.{Added}
 use Rattle.graph.specs.declared.preparation_graph.Added.the-variants.{Arc as Came′, Full}
-use Rattle.graph.specs.Stands.{Stands}
-use Rattle.graph.specs.Promises.{Addable, Answers}
+use Rattle.graph.specs.Stands.{Stands, Extends}
+use Rattle.graph.specs.Promises.{Addable, Answers, Reduces}
 use Rattle.graph.proofs.Standing.{within-pool}
 use Rattle.graph.proofs.Staying.{added-unmoved, unmoved-refl}
 use Rattle.search.specs.declared.witness_search.Found.{Found as Answer}
-use Rattle.search.specs.Searching.{World, world, Lent, lent, Standing, Ready}
-use Rattle.search.specs.Promises.{Answered}
+use Rattle.search.specs.Searching.{mostSum, World, world, Lent, lent, Standing, Ready}
+use Rattle.search.specs.Promises.{Answered, Asks}
 use Rattle.search.proofs.Laws.{with-arc, standing-added, ready-added}
 use Rattle.node_contractor.specs.declared.Work.{Work}
 use Rattle.node_contractor.specs.declared.Contracted.{Contracted}
@@ -32,21 +35,32 @@ module _ (pool limit v tail head sum : ℕ) (c : Contracting) where
   unfolding pair-of
   same-ends e = rw (eq-eqb tail head e, pair-of)
 
-  pub too-heavy : (tail ≡ head → ⊥) → maxWeight < sum → pair-of pool limit v tail head sum c ≡ refused 12
-  unfolding pair-of within-sum
-  too-heavy differ h = rw (ne-eqb tail head differ, lt-ltb maxWeight sum h, pair-of, within-sum)
-
-  module _ (differ : tail ≡ head → ⊥) (small : sum ≤ maxWeight) where
+  module _ (differ : tail ≡ head → ⊥) where
     abbrev sought : Found
     sought = find-max-weight (c .graph) v limit head sum (c .search)
 
     pub with-witness : sought .weight ≤ sum → pair-of pool limit v tail head sum c ≡ went (contracting (c .graph) (sought .search))
-    unfolding pair-of within-sum ask unless-witness
-    with-witness h = rw (ne-eqb tail head differ, le-ltb maxWeight sum small, le-leb (sought .weight) sum h, pair-of, within-sum, unless-witness)
+    unfolding pair-of ask unless-witness
+    with-witness h = rw (ne-eqb tail head differ, le-leb (sought .weight) sum h, pair-of, unless-witness)
 
-    pub without-witness : sum < sought .weight → pair-of pool limit v tail head sum c ≡ add pool limit v (arc tail head sum v) (c .graph) (sought .search)
-    unfolding pair-of within-sum ask unless-witness
-    without-witness h = rw (ne-eqb tail head differ, le-ltb maxWeight sum small, lt-leb (sought .weight) sum h, pair-of, within-sum, unless-witness)
+    pub without-witness : sum < sought .weight → pair-of pool limit v tail head sum c ≡ within-sum pool limit v (arc tail head sum v) (c .graph) (sought .search)
+    unfolding pair-of ask unless-witness
+    without-witness h = rw (ne-eqb tail head differ, lt-leb (sought .weight) sum h, pair-of, unless-witness)
+
+-- and by what is looked for
+module _ (pool limit v : ℕ) (a : Arc) (g : List Arc) (s : Search) where
+  light-added : a .weight ≤ maxWeight → within-sum pool limit v a g s ≡ add pool limit v a g s
+  unfolding within-sum
+  light-added small = rw (le-ltb maxWeight (a .weight) small, within-sum)
+
+  module _ (large : maxWeight < a .weight) where
+    heavy-kept : kept a g ≡ true → within-sum pool limit v a g s ≡ went (contracting g s)
+    unfolding within-sum unless-kept
+    heavy-kept there = rw (lt-ltb maxWeight (a .weight) large, within-sum, there, unless-kept)
+
+    heavy-refused : kept a g ≡ false → within-sum pool limit v a g s ≡ refused 12
+    unfolding within-sum unless-kept
+    heavy-refused none = rw (lt-ltb maxWeight (a .weight) large, within-sum, none, unless-kept)
 
 -- `pair` reads of an in-arc its tail and its weight
 pub pair-is : (pool limit v tail weight : ℕ) (a b : Arc) (c : Contracting) → a .tail ≡ tail → a .weight ≡ weight →
@@ -113,35 +127,70 @@ module _ {m : Lent} {pool : ℕ} {x : Work} {v tail head n : ℕ} {g : List Arc}
         avoid = refl;
       })
 
+  -- the search may be asked for this pair
+  abbrev pub asks : {sum : ℕ} → sum ≤ mostSum → Asks m (x .search) head sum (world n pool (x .state) g) s
+  asks small = record { ready = p .midst; inside = p .head-in; small = small }
+
   abbrev pub addable : {sum : ℕ} → Addable n pool (memory (m .arcs) (m .nodes)) (m .weights) (x .state) (arc tail head sum v) g
   addable = record { stands = held; tail-in = p .tail-in; head-in = p .head-in }
 
-  module _ {arcs weights nodes : List ℕ} {sum : ℕ} (limit : ℕ) (small : sum ≤ maxWeight) (r : Added)
-      (answers : Answers n pool (memory (m .arcs) (m .nodes)) (m .weights) (memory arcs nodes) weights (held .ids) (addOrReduce (arc tail head sum v) g) r) where
-    -- the shortcut came
-    pub added-came : (next : Pool) → r ≡ Came′ next →
-        Steps x (lent arcs weights nodes (m .labels) (m .heap)) v held (add pool limit v (arc tail head sum v) g s) (Went (record { state = next; search = x .search }))
-    unfolding add in-pool and-then
-    added-came next e =
-        let more = answers .came next e in
-        let light = standing-added (arc tail head sum v) (p .midst .standing) small (more .stands) .light in
-        let standing : Standing (with-arc (world n pool (x .state) g) next (arc tail head sum v)) arcs weights nodes = record { stands = more .stands; light = light } in
+  abbrev short : ℕ → Arc
+  short sum = arc tail head sum v
+
+  module _ {arcs weights nodes : List ℕ} (sum limit : ℕ) where
+    -- the slices hold the graph with the shortcut, or with what kept it out
+    holding : {d : Step Contracting} (next : Pool) (more : Extends n pool (memory arcs nodes) weights next (addOrReduce (short sum) g) (held .ids)) →
+        ((y : Arc) → In y (addOrReduce (short sum) g) → y .weight ≤ maxWeight) → d ≡ went (contracting (addOrReduce (short sum) g) s) →
+        Steps x (lent arcs weights nodes (m .labels) (m .heap)) v held d (Went (record { state = next; search = x .search }))
+    holding next more light e =
+        let standing : Standing (with-arc (world n pool (x .state) g) next (short sum)) arcs weights nodes = record { stands = more .stands; light = light } in
         steps-came
         (record {
-          graph = addOrReduce (arc tail head sum v) g;
+          graph = addOrReduce (short sum) g;
           search = s;
-          is = rw (le-leb (length (addOrReduce (arc tail head sum v) g)) pool (within-pool (more .stands)), add, in-pool);
-          midst = over-standing standing (ready-added (p .midst) next (arc tail head sum v) standing);
-          unmoved = added-unmoved (arc tail head sum v) v held more (p .tail-off) (p .head-off);
+          is = e;
+          midst = over-standing standing (ready-added (p .midst) next (short sum) standing);
+          unmoved = added-unmoved (short sum) v held more (p .tail-off) (p .head-off);
           base = refl;
           avoid = refl;
         })
 
-    -- no place was left for it
-    pub pool-full : {m′ : Lent} → r ≡ Full → Steps x m′ v held (add pool limit v (arc tail head sum v) g s) (Refused 10)
-    unfolding add in-pool and-then
-    pool-full e =
-        steps-refused (rw (lt-leb (length (addOrReduce (arc tail head sum v) g)) pool (answers .full e), add, in-pool))
+    module _ (small : sum ≤ maxWeight) (r : Added)
+        (answers : Answers n pool (memory (m .arcs) (m .nodes)) (m .weights) (memory arcs nodes) weights (held .ids) (addOrReduce (short sum) g) r) where
+      -- the shortcut came
+      pub added-came : (next : Pool) → r ≡ Came′ next →
+          Steps x (lent arcs weights nodes (m .labels) (m .heap)) v held (within-sum pool limit v (short sum) g s) (Went (record { state = next; search = x .search }))
+      unfolding add in-pool and-then
+      added-came next e =
+          let more = answers .came next e in
+          holding next more (standing-added (short sum) (p .midst .standing) small (more .stands) .light)
+          (light-added pool limit v (short sum) g s small ∙ rw (le-leb (length (addOrReduce (short sum) g)) pool (within-pool (more .stands)), add, in-pool))
+
+      -- no place was left for it
+      pub pool-full : {m′ : Lent} → r ≡ Full → Steps x m′ v held (within-sum pool limit v (short sum) g s) (Refused 10)
+      unfolding add in-pool and-then
+      pool-full e =
+          steps-refused
+          (light-added pool limit v (short sum) g s small ∙ rw (lt-leb (length (addOrReduce (short sum) g)) pool (answers .full e), add, in-pool))
+
+    -- of a sum that no arc may weigh
+    module _ (large : maxWeight < sum) (r : Bool)
+        (reduces : Reduces n pool (memory (m .arcs) (m .nodes)) (m .weights) (memory arcs nodes) weights (x .state) (held .ids) (short sum) g r) where
+      none-heavier : (y : Arc) → In y g → y .weight ≤ sum
+      none-heavier y i = omega (arith, p .midst .standing .light y i)
+
+      -- an arc was there
+      pub arc-there : r ≡ true → Steps x (lent arcs weights nodes (m .labels) (m .heap)) v held (within-sum pool limit v (short sum) g s) (Went x)
+      arc-there e =
+          let found = reduces .found ∙ e in
+          let same = none-reduced (short sum) g none-heavier found in
+          holding (x .state) (reduces .reduced e) (rw same (p .midst .standing .light))
+          (heavy-kept pool limit v (short sum) g s large (kept-joins (short sum) g none-heavier ∙ found) ∙ ap (λ h. went (contracting h s)) (sym same))
+
+      -- or none
+      pub no-arc-there : {m′ : Lent} → r ≡ false → Steps x m′ v held (within-sum pool limit v (short sum) g s) (Refused 12)
+      no-arc-there e =
+          steps-refused (heavy-refused pool limit v (short sum) g s large (kept-joins (short sum) g none-heavier ∙ reduces .found ∙ e))
 
   -- After the search: the graph is as it was.
   module _ {labels heap : List ℕ} {sum limit : ℕ} (r : Answer)
@@ -163,7 +212,7 @@ module _ {m : Lent} {pool : ℕ} {x : Work} {v tail head n : ℕ} {g : List Arc}
           head-off = p .head-off;
         }
 
-    module _ (differ : tail ≡ head → ⊥) (small : sum ≤ maxWeight) where
+    module _ (differ : tail ≡ head → ⊥) where
       pub witnessed : r .weight ≤ sum →
           Steps x (lent (m .arcs) (m .weights) (m .nodes) labels heap) v held (pair-of pool limit v tail head sum (contracting g s)) (Went later)
       witnessed h =
@@ -173,7 +222,7 @@ module _ {m : Lent} {pool : ℕ} {x : Work} {v tail head n : ℕ} {g : List Arc}
             search = sought-later;
             is =
                 rw (p .avoids)
-                (with-witness pool limit v tail head sum (contracting g s) differ small
+                (with-witness pool limit v tail head sum (contracting g s) differ
                 (rw (p .avoids) at (rw (answered .weight) at h)));
             midst = over-standing (p .midst .standing) (answered .ready);
             unmoved = unmoved-refl v held;
@@ -182,12 +231,12 @@ module _ {m : Lent} {pool : ℕ} {x : Work} {v tail head n : ℕ} {g : List Arc}
           })
 
       pub not-witnessed : {m′ : Lent} {r′ : Contracted} → sum < r .weight →
-          Steps later m′ v held (add pool limit v (arc tail head sum v) g sought-later) r′ →
+          Steps later m′ v held (within-sum pool limit v (arc tail head sum v) g sought-later) r′ →
           Steps x m′ v held (pair-of pool limit v tail head sum (contracting g s)) r′
       not-witnessed h =
           steps-from
           (rw (p .avoids)
-          (without-witness pool limit v tail head sum (contracting g s) differ small
+          (without-witness pool limit v tail head sum (contracting g s) differ
           (rw (p .avoids) at (rw (answered .weight) at h))))
           (answered .base)
           (answered .avoid)

@@ -10,11 +10,11 @@ use Rattle.rules.specs.Numbers.{maxWeight}
 use Rattle.rules.specs.Lists.{In}
 use Rattle.rules.specs.Graph.{Arc, outs, ins, Loopless}
 use Rattle.rules.specs.Search.{Search, init}
-use Rattle.rules.specs.Build.{Step, went, refused, Contracting, add, within-sum, pairs-of, handle-shortcuts, contract-node}
+use Rattle.rules.specs.Build.{Step, went, refused, Contracting, within-sum, ask, pairs-of, handle-shortcuts, contract-node}
 use Rattle.lists.specs.Memory.{Memory, arc}
 use Rattle.graph.specs.declared.preparation_graph.Pool.{Pool}
 use Rattle.graph.specs.Stands.{Stands, Unmoved}
-use Rattle.search.specs.Searching.{world, Lent, Ready, Resting, Startable, Entering}
+use Rattle.search.specs.Searching.{mostSum, world, Lent, Ready, Resting, Startable, Entering}
 use Rattle.node_contractor.specs.declared.Work.{Work}
 use Rattle.node_contractor.specs.declared.Contracted.{Contracted}
 use Rattle.node_contractor.specs.declared.Contracted.the-variants.{Went, Refused}
@@ -25,7 +25,7 @@ contracting g s = record { graph = g; search = s }
 -- `pair` of the rules, by the numbers that it reads
 unfoldable pub pair-of : (pool limit v tail head sum : ℕ) → Contracting → Step Contracting
 pair-of pool limit v tail head sum c =
-    elim (eqb tail head) [ true ↦ went c | false ↦ within-sum pool limit v (arc tail head sum v) c ]
+    elim (eqb tail head) [ true ↦ went c | false ↦ ask pool limit v (arc tail head sum v) c ]
 
 -- the slices hold g, and a search that is in the midst of its targets
 abbrev pub Midst : Lent → (pool : ℕ) → Work → (n : ℕ) → List Arc → Search → Type 0
@@ -59,12 +59,12 @@ pub record Pairing (m : Lent) (pool : ℕ) (x : Work) (v tail head n : ℕ) (g :
 
 abbrev pub Adds : (m m′ : Lent) (pool : ℕ) → Work → (v tail head sum limit : ℕ) → Contracted → Type 0
 Adds m m′ pool x v tail head sum limit r =
-    (n : ℕ) (g : List Arc) (s : Search) (p : Pairing m pool x v tail head n g s) → sum ≤ maxWeight →
-    Steps x m′ v (p .midst .standing .stands) (add pool limit v (arc tail head sum v) g s) r
+    (n : ℕ) (g : List Arc) (s : Search) (p : Pairing m pool x v tail head n g s) →
+    Steps x m′ v (p .midst .standing .stands) (within-sum pool limit v (arc tail head sum v) g s) r
 
 abbrev pub Pairs : (m m′ : Lent) (pool : ℕ) → Work → (v tail head sum limit : ℕ) → Contracted → Type 0
 Pairs m m′ pool x v tail head sum limit r =
-    (n : ℕ) (g : List Arc) (s : Search) (p : Pairing m pool x v tail head n g s) →
+    (n : ℕ) (g : List Arc) (s : Search) (p : Pairing m pool x v tail head n g s) → sum ≤ mostSum →
     Steps x m′ v (p .midst .standing .stands) (pair-of pool limit v tail head sum (contracting g s)) r
 
 -- the in-arc a, of this tail and weight, is at hand, and v is an end of none of its shortcuts

@@ -1,10 +1,9 @@
 // Contracts a node: shortcuts between its neighbours, where no witness makes them needless, and then its arcs go.
 ghost use mathlib.Core.List.{List};
 ghost use Prim.Native.Nat.{ℕ, _≤_};
-ghost use Rattle.rules.specs.Numbers.{maxWeight};
 ghost use Rattle.rules.specs.Graph.{Arc};
 ghost use Rattle.rules.specs.Search.{Search};
-ghost use Rattle.search.specs.Searching.{lent};
+ghost use Rattle.search.specs.Searching.{mostSum, lent};
 ghost use Rattle.node_contractor.specs.Promises.{Pairing, Adds, Pairs, Leaving, Leaves, Coming, Comes, Contractible, Handles, Contracts};
 use graph::preparation_graph::Added;
 use graph::preparation_graph::Pool;
@@ -24,7 +23,8 @@ pub enum Contracted {
     Refused(u32),
 }
 
-// Adds or reduces the arc of a pair. Refusal 10 where no place is left for it.
+// Adds or reduces the arc of a pair that has no witness. A sum above 2^40 is none that an arc may weigh: an arc of the same ends is
+// kept (it weighs less, so that none is reduced), and where there is none that is refusal 12. Refusal 10 where no place is left.
 fn add_shortcut(
     arcs: &mut [u32],
     weights: &mut [u64],
@@ -36,10 +36,16 @@ fn add_shortcut(
     head: u32,
     sum: u64,
 ) -> Contracted
-    requires { ⌜ ((labels heap : List ℕ) × (n : ℕ) × (g : List Arc) × (s : Search) × Pairing (lent (now arcs) (now weights) (now nodes) labels heap) pool work v tail head n g s × (sum ≤ maxWeight)) ⌝ }
+    requires { ⌜ ((labels heap : List ℕ) × (n : ℕ) × (g : List Arc) × (s : Search) × Pairing (lent (now arcs) (now weights) (now nodes) labels heap) pool work v tail head n g s) ⌝ }
     ensures { λ r. ⌜ ((labels heap : List ℕ) (limit : ℕ) → Adds (lent (now (arcs .entry)) (now (weights .entry)) (now (nodes .entry)) labels heap)
         (lent (now (arcs .exit)) (now (weights .exit)) (now (nodes .exit)) labels heap) pool work v tail head sum limit r) ⌝ }
 {
+    if MAX_WEIGHT < sum {
+        if graph::preparation_graph::reduce_edge(arcs, weights, nodes, tail, head, sum, v) {
+            return Contracted::Went(work);
+        }
+        return Contracted::Refused(12);
+    }
     let state = work.state;
     let search = work.search;
     let added = graph::preparation_graph::add_or_reduce_edge(
@@ -62,7 +68,7 @@ fn add_shortcut(
     })
 }
 
-// One pair: dropped where both ends are the same, refusal 12 where its sum is too large, dropped where there is a witness.
+// One pair: dropped where both ends are the same, or where there is a witness.
 fn handle_pair(
     arcs: &mut [u32],
     weights: &mut [u64],
@@ -77,15 +83,12 @@ fn handle_pair(
     sum: u64,
     limit: u32,
 ) -> Contracted
-    requires { ⌜ ((n : ℕ) × (g : List Arc) × (s : Search) × Pairing (lent (now arcs) (now weights) (now nodes) (now labels) (now heap)) pool work v tail head n g s) ⌝ }
+    requires { ⌜ ((n : ℕ) × (g : List Arc) × (s : Search) × Pairing (lent (now arcs) (now weights) (now nodes) (now labels) (now heap)) pool work v tail head n g s × (sum ≤ mostSum)) ⌝ }
     ensures { λ r. ⌜ Pairs (lent (now (arcs .entry)) (now (weights .entry)) (now (nodes .entry)) (now (labels .entry)) (now (heap .entry)))
         (lent (now (arcs .exit)) (now (weights .exit)) (now (nodes .exit)) (now (labels .exit)) (now (heap .exit))) pool work v tail head sum limit r ⌝ }
 {
     if tail == head {
         return Contracted::Went(work);
-    }
-    if MAX_WEIGHT < sum {
-        return Contracted::Refused(12);
     }
     let state = work.state;
     let asked = work.search;

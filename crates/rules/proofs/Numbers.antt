@@ -7,14 +7,16 @@ use Prim.Native.Nat.{ℕ, _+_, _≤_, _<_}
 use native.Mathlib.Omega.{arith}
 use lib.Dec.{eqb, ltb, leb}
 use lib.ListN.{length}
-use borrow.Author.Tests.{leb-false, lt-leb, ltb-true, lt-ltb}
+use borrow.Author.Tests.{eqb-false, ne-eqb, leb-true, leb-false, lt-leb, ltb-true, lt-ltb}
 use Rattle.rules.specs.Numbers.{maxWeight}
 use Rattle.rules.specs.Columns.{forward, backward}
 use Rattle.rules.specs.Refusals.{Row, first-met, BuildCall, graph-rows, order-rows, build-refusal, QueryCall, check-rows, end-rows, query-refusal}
-use Rattle.rules.specs.Graph.{Arc, outs, ins}
-use Rattle.rules.specs.Search.{init, find-max-weight}
-use Rattle.rules.specs.Build.{Step, went, refused, and-then, in-pool, from-links, Contracting, add, unless-witness, ask, within-sum, shortcut, pair, pairs-of, handle-shortcuts, contract-node, Level, raws, in-tables, Building, rank-step, rank-steps, contraction}
-use Rattle.rules.proofs.Cases.{on-test}
+use Rattle.rules.specs.Graph.{Arc, outs, ins, kept}
+use Rattle.rules.specs.Search.{Search, init, Found, find-max-weight}
+use Rattle.rules.specs.Build.{Step, went, refused, and-then, in-pool, from-links, Contracting, add, unless-kept, within-sum, unless-witness, ask, shortcut, pair, pairs-of, handle-shortcuts, contract-node, Level, raws, in-tables, Building, rank-step, rank-steps, contraction}
+use Rattle.rules.specs.FirstDemand.{SumExceeded}
+use Rattle.rules.proofs.Arcs.{kept-in, in-kept}
+use Rattle.rules.proofs.Cases.{on-test, not-both}
 use Rattle.rules.proofs.Steps.{refused-not-went}
 use Rattle.rules.proofs.Refutes.{not-within, and-refutes}
 
@@ -86,20 +88,22 @@ module _ (P : ℕ → Type 0) where
   tables-leaf eleven fwd bwd levels =
       either-only (leb (length (raws forward levels)) fwd && leb (length (raws backward levels)) bwd) (went-only levels) (refused-only 11 eleven)
 
-  pub ask-leaf : P 10 → (pool limit v : ℕ) (s : Arc) (c : Contracting) → Only (ask pool limit v s c)
-  unfolding ask unless-witness add
-  ask-leaf ten pool limit v s c =
-      either-only (leb (find-max-weight (c .graph) v limit (s .head) (s .weight) (c .search) .weight) (s .weight)) (went-only _)
-      (then-only _ _ (pool-leaf ten _ _) (λ m _. went-only _))
+  add-leaf : P 10 → (pool limit v : ℕ) (s : Arc) (g : List Arc) (found : Search) → Only (add pool limit v s g found)
+  unfolding add
+  add-leaf ten pool limit v s g found = then-only _ _ (pool-leaf ten _ _) (λ m _. went-only _)
 
   -- The steps, where 10, 11 and 12 pass.
   module _ (ten : P 10) (eleven : P 11) (twelve : P 12) where
     module _ (pool limit v : ℕ) where
       pair-leaf : (a b : Arc) (c : Contracting) → Only (pair pool limit v a b c)
-      unfolding pair within-sum shortcut
+      unfolding pair ask unless-witness within-sum unless-kept shortcut
       pair-leaf a b c =
+          let found = find-max-weight (c .graph) v limit (b .head) (a .weight + b .weight) (c .search) in
           either-only (eqb (a .tail) (b .head)) (went-only c)
-          (either-only (ltb maxWeight (a .weight + b .weight)) (refused-only 12 twelve) (ask-leaf ten pool limit v (shortcut pool limit v a b) c))
+          (either-only (leb (found .weight) (a .weight + b .weight)) (went-only _)
+          (either-only (ltb maxWeight (a .weight + b .weight))
+          (either-only (kept (shortcut pool limit v a b) (c .graph)) (went-only _) (refused-only 12 twelve))
+          (add-leaf ten pool limit v (shortcut pool limit v a b) (c .graph) (found .search))))
 
       pairs-leaf : (a : Arc) (bs : List Arc) (c : Contracting) → Only (pairs-of pool limit v a bs c)
       unfolding pairs-of
@@ -153,11 +157,61 @@ table-exceeded fwd bwd ls =
       λ h. rw (unfit .1 h, in-tables),
     )
 
-pub sum-exceeded : (pool limit v : ℕ) (s : Arc) (k : Contracting) → (within-sum pool limit v s k ≡ refused 12) ↔ (maxWeight < s .weight)
-unfolding within-sum
-sum-exceeded pool limit v s k = (
-  λ e.
-      on-test (ltb maxWeight (s .weight)) (ltb-true maxWeight (s .weight))
-      (λ t. absurd (omega (arith, ask-leaf (λ r. r ≡ 10) refl pool limit v s k 12 (rw (t, within-sum) at e)))),
-  λ h. rw (lt-ltb maxWeight (s .weight) h, within-sum),
-)
+-- 12 comes where no test before it turned the pair away.
+module _ (pool limit v : ℕ) (a b : Arc) (k : Contracting) where
+  abbrev sum : ℕ
+  sum = a .weight + b .weight
+
+  abbrev found : Found
+  found = find-max-weight (k .graph) v limit (b .head) sum (k .search)
+
+  kept-test : Bool
+  kept-test = kept (shortcut pool limit v a b) (k .graph)
+
+  pub sum-exceeded : (pair pool limit v a b k ≡ refused 12) ↔ SumExceeded limit v a b k
+  unfolding pair ask unless-witness within-sum unless-kept shortcut kept-test
+  sum-exceeded = (
+    λ e.
+        on-test (eqb (a .tail) (b .head)) (λ t. absurd (went-not-refused (rw (t, pair) at e)))
+        (λ t.
+        on-test (leb (found .weight) sum) (λ w. absurd (went-not-refused (rw (t, pair, w, unless-witness) at e)))
+        (λ w.
+        on-test (ltb maxWeight sum)
+        (λ u.
+        on-test kept-test (λ y. absurd (went-not-refused (rw (t, pair, w, unless-witness, u, within-sum, y, unless-kept) at e)))
+        (λ y.
+        record {
+          ends-differ = eqb-false (a .tail) (b .head) t;
+          above = ltb-true maxWeight sum u;
+          no-witness = leb-false (found .weight) sum w;
+          no-arc =
+              λ x m p q.
+              on-test (leb (x .weight) sum)
+              (λ z. absurd (not-both kept-test (in-kept (shortcut pool limit v a b) (k .graph) x m p q (leb-true (x .weight) sum z)) y))
+              (leb-false (x .weight) sum);
+        }))
+        (λ u.
+        absurd
+        (omega (
+          arith,
+          add-leaf (λ r. r ≡ 10) refl pool limit v (shortcut pool limit v a b) (k .graph) (found .search) 12 (rw (t, pair, w, unless-witness, u, within-sum) at e),
+        ))))),
+    λ x.
+        let none : kept-test ≡ false =
+        on-test kept-test
+        (λ y.
+        let z = kept-in (shortcut pool limit v a b) (k .graph) y in
+        absurd (omega (arith, x .no-arc (z .0) (z .1) (z .2) (z .3), z .4)))
+        (λ y. y)
+        in
+        rw (
+          ne-eqb (a .tail) (b .head) (x .ends-differ),
+          pair,
+          lt-leb (found .weight) sum (x .no-witness),
+          unless-witness,
+          lt-ltb maxWeight sum (x .above),
+          within-sum,
+          none,
+          unless-kept,
+        ),
+  )

@@ -10,7 +10,7 @@ use Rattle.rules.specs.Lists.{position, over, range, flat-map}
 use Rattle.rules.specs.Columns.{Link, Links, linkList, Table, Entry, Hierarchy, Side, forward, backward, room, marked}
 use Rattle.rules.specs.TableRules.{tail-of, head-of}
 use Rattle.rules.specs.Refusals.{BuildCall, build-refusal}
-use Rattle.rules.specs.Graph.{Arc, outs, ins, addOrReduce, disconnect}
+use Rattle.rules.specs.Graph.{Arc, outs, ins, addOrReduce, kept, disconnect}
 use Rattle.rules.specs.Search.{Search, init, Found, find-max-weight}
 
 -- A step goes on, or ends the build with a refusal's number.
@@ -51,24 +51,29 @@ module _ (pool limit v : ℕ) where
   unfoldable pub add : Arc → List Arc → Search → Step Contracting
   add s g found = and-then (in-pool pool (addOrReduce s g)) (λ g′. went (record { graph = g′; search = found }))
 
+  -- A sum that no arc may weigh: nothing is put in.
+  unfoldable pub unless-kept : Arc → List Arc → Search → Step Contracting
+  unless-kept s g found = elim (kept s g) [ true ↦ went (record { graph = g; search = found }) | false ↦ refused 12 ]
+
+  -- "12 is given, before 10, exactly when the sum is above 2^40, no witness was found .., and no arc .. is there already"
+  unfoldable pub within-sum : Arc → List Arc → Search → Step Contracting
+  within-sum s g found = elim (ltb maxWeight (s .weight)) [ true ↦ unless-kept s g found | false ↦ add s g found ]
+
   -- "If the search answers at most the sum, drop the pair."
   unfoldable pub unless-witness : Arc → List Arc → Found → Step Contracting
   unless-witness s g f =
       elim (leb (f .weight) (s .weight)) [
         | true ↦ went (record { graph = g; search = f .search })
-        | false ↦ add s g (f .search)
+        | false ↦ within-sum s g (f .search)
       ]
 
+  -- "the search runs first with the full sum"
   unfoldable pub ask : Arc → Contracting → Step Contracting
   ask s c = unless-witness s (c .graph) (find-max-weight (c .graph) v limit (s .head) (s .weight) (c .search))
 
-  -- "form the sum; above 2^40 is refusal 12"
-  unfoldable pub within-sum : Arc → Contracting → Step Contracting
-  within-sum s c = elim (ltb maxWeight (s .weight)) [ true ↦ refused 12 | false ↦ ask s c ]
-
   -- "if a = b, drop the pair"
   unfoldable pub pair : Arc → Arc → Contracting → Step Contracting
-  pair a b c = elim (eqb (a .tail) (b .head)) [ true ↦ went c | false ↦ within-sum (shortcut a b) c ]
+  pair a b c = elim (eqb (a .tail) (b .head)) [ true ↦ went c | false ↦ ask (shortcut a b) c ]
 
   -- one in-arc with each out-arc
   unfoldable pub pairs-of : Arc → List Arc → Contracting → Step Contracting

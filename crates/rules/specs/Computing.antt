@@ -26,11 +26,11 @@ unfolding
     Refusals.ends-fit Refusals.offset-fits Refusals.check-rows Refusals.end-rows Refusals.check-refusal
     Refusals.query-refusal
     Heap.leaves-first Heap.push
-    Graph.leaves Graph.enters Graph.outs Graph.ins Graph.joins Graph.reduce Graph.addOrReduce Graph.disconnect
+    Graph.leaves Graph.enters Graph.outs Graph.ins Graph.joins Graph.reduce Graph.addOrReduce Graph.kept Graph.disconnect
     Search.init Search.offer Search.relax Search.with-heap Search.mark-settled Search.settle Search.reached Search.run
     Search.search-fuel Search.answer Search.find-max-weight
-    Build.and-then Build.in-pool Build.link-arc Build.from-links Build.shortcut Build.add Build.unless-witness
-    Build.ask Build.within-sum Build.pair Build.pairs-of Build.handle-shortcuts Build.contract-node Build.arcs-of
+    Build.and-then Build.in-pool Build.link-arc Build.from-links Build.shortcut Build.add Build.unless-kept
+    Build.within-sum Build.unless-witness Build.ask Build.pair Build.pairs-of Build.handle-shortcuts Build.contract-node Build.arcs-of
     Build.neighbour-of Build.raw Build.level-raws Build.raws Build.in-tables Build.rank-step Build.rank-steps
     Build.contraction Build.place Build.open-entry Build.finish Build.running-sums Build.starts-of Build.laid
     Build.finished Build.ranks-of Build.finish-contraction Build.built Build.unless-refused Build.build

@@ -6,8 +6,8 @@ use Prim.Native.Nat.{ℕ, suc, _+_, _-_, _^_}
 use lib.ListN.{getD, set, replicate}
 use Rattle.rules.specs.Numbers.{invalid}
 use Rattle.rules.specs.Lists.{range}
-use Rattle.rules.specs.Columns.{Table, Hierarchy}
-use Rattle.rules.specs.Refusals.{BuildCall, QueryCall, check-refusal}
+use Rattle.rules.specs.Columns.{Link, Table, Hierarchy}
+use Rattle.rules.specs.Refusals.{BuildCall, QueryCall, build-scratch, check-refusal}
 use Rattle.rules.specs.Build.{build}
 use Rattle.rules.specs.Query.{End, query}
 use Rattle.rules.specs.Bench.{Given, link, at, plain, opened, columns, building, querying, L, L-with, L-tables, observing}
@@ -97,10 +97,19 @@ L-starting starts =
 unfoldable pub L-ranked : List ℕ → Hierarchy
 L-ranked ranks = record { ranks = ranks; forward = L-built .forward; backward = L-built .backward }
 
+-- The node 1 of four is contracted first, with room for any graph of theirs; `most` is the most that an arc may weigh.
+unfoldable pub most : ℕ
+most = 2 ^ 40
+
+unfoldable pub contracting-1 : ℕ → ℕ → List Link → BuildCall
+contracting-1 limit pool ls =
+    lending (record { nodes = 4; links = ls; order = 1 ∷ 0 ∷ 3 ∷ 2 ∷ []; limit = limit }) (4 ∷ 5 ∷ 6 ∷ 6 ∷ 6 ∷ 6 ∷ 6 ∷ 5 ∷ 6 ∷ 6 ∷ 6 ∷ 6 ∷ 6 ∷ []) pool
+    (build-scratch 4 pool)
+
 -- All of the above, where a case is computed.
 unfoldable pub edging : Unit {0}
 unfolding
-    less each-less blank-table blank lending built L-places L-scratch L-of L-built L-query-scratch L-asking answered round-trip
+    less each-less blank-table blank lending built L-places L-scratch L-of most contracting-1 L-built L-query-scratch L-asking answered round-trip
     round-trip-asking checked L-starting L-ranked L L-with L-tables observing
 edging = tt
 
@@ -172,6 +181,43 @@ no-pool = refl
 pub largest-sum : built (lending (L-of (2 ^ 39) (2 ^ 39)) L-places 3 L-scratch ∷ lending (L-of (2 ^ 39) (2 ^ 39 + 1)) L-places 3 L-scratch ∷ []) ≡ 0 ∷ 12 ∷ []
 unfolding edging
 largest-sum = refl
+
+-- a witness that weighs more than 2^40 itself; the limit, before it is found
+pub heavy-witness : built (map (λ limit. contracting-1 limit 12 (link 0 1 most ∷ link 0 2 most ∷ link 1 3 most ∷ link 2 3 most ∷ [])) (2 ∷ 1 ∷ [])) ≡ 0 ∷ 12 ∷ []
+unfolding edging
+heavy-witness = refl
+
+-- an arc of the same ends, with a search and with none; as heavy as the sum, and heavier by one
+pub arc-there-already : built
+    (contracting-1 1 12 (link 0 1 most ∷ link 0 2 1 ∷ link 1 2 most ∷ []) ∷
+    contracting-1 0 12 (link 0 1 most ∷ link 0 2 1 ∷ link 1 2 most ∷ []) ∷
+    contracting-1 0 12 (link 0 1 most ∷ link 0 2 (2 ^ 41) ∷ link 1 2 most ∷ []) ∷
+    contracting-1 0 12 (link 0 1 most ∷ link 0 2 (2 ^ 41 + 1) ∷ link 1 2 most ∷ []) ∷
+    contracting-1 9 12 (link 0 1 most ∷ link 0 2 (2 ^ 41 + 1) ∷ link 1 2 most ∷ []) ∷
+    []) ≡
+    0 ∷ 0 ∷ 0 ∷ 12 ∷ 12 ∷ []
+unfolding edging
+arc-there-already = refl
+
+-- arcs from the same tail, to the same head, and the other way
+pub other-arcs : built
+    (contracting-1 0 12 (link 0 1 most ∷ link 0 3 1 ∷ link 1 2 most ∷ []) ∷
+    contracting-1 0 12 (link 0 1 most ∷ link 1 2 most ∷ link 3 2 1 ∷ []) ∷
+    contracting-1 0 12 (link 0 1 most ∷ link 1 2 most ∷ link 2 0 1 ∷ []) ∷
+    []) ≡
+    12 ∷ 12 ∷ 12 ∷ []
+unfolding edging
+other-arcs = refl
+
+-- with no place left 12 comes before 10; but a pair before it has its own 10
+pub twelve-before-ten : built
+    (contracting-1 9 2 (link 0 1 most ∷ link 1 2 most ∷ []) ∷
+    contracting-1 9 3 (link 0 1 1 ∷ link 1 2 1 ∷ link 1 3 most ∷ []) ∷
+    contracting-1 9 4 (link 0 1 1 ∷ link 1 2 1 ∷ link 1 3 most ∷ []) ∷
+    []) ≡
+    12 ∷ 10 ∷ 12 ∷ []
+unfolding edging
+twelve-before-ten = refl
 
 -- Queries.
 

@@ -14,7 +14,7 @@ use Rattle.rules.specs.TableRules.{TableRules}
 use Rattle.rules.specs.Refusals.{BuildCall, QueryCall, build-scratch, query-scratch, check-refusal}
 use Rattle.rules.specs.Graph.{Arc}
 use Rattle.rules.specs.Search.{Search, init, find-max-weight}
-use Rattle.rules.specs.Build.{refused, in-pool, Level, raws, in-tables, Contracting, within-sum, build}
+use Rattle.rules.specs.Build.{refused, in-pool, Level, raws, in-tables, Contracting, pair, build}
 use Rattle.rules.specs.Query.{Answered, searched, walk, query}
 
 infix 90 _says_
@@ -157,6 +157,14 @@ pub record Handed (q : QueryCall) (a : Answered) : Type 0 where
   pub front : (i d : ℕ) → i < length (a .walk) → getD (a .path) i d ≡ getD (a .walk) i d
   pub beyond : Beyond (length (a .walk)) (q .path) (a .path)
 
+-- "the sum is above 2^40, no witness was found within the limit, and no arc from a to b that weighs at most the sum is there
+-- already": of the pair of an in-arc a and an out-arc b of v, with the graph and the search as they are when its turn comes
+pub record SumExceeded (limit v : ℕ) (a b : Arc) (k : Contracting) : Type 0 where
+  pub ends-differ : a .tail ≡ b .head → ⊥
+  pub above : 2 ^ 40 < a .weight + b .weight
+  pub no-witness : a .weight + b .weight < find-max-weight (k .graph) v limit (b .head) (a .weight + b .weight) (k .search) .weight
+  pub no-arc : (x : Arc) → In x (k .graph) → x .tail ≡ a .tail → x .head ≡ b .head → a .weight + b .weight < x .weight
+
 -- "the count of nodes settled never passes the limit and is the number of settling steps": from s to t these nodes were
 -- settled, the last first, each for the first time
 pub record Settling (limit : ℕ) (s t : Search) : Type 0 where
@@ -202,10 +210,10 @@ pub record FirstDemand : Type 0 where
   pub untouched : (c : BuildCall) → 1 ≤ build c .number → build c .number ≤ 9 → build c .hierarchy ≡ c .lent
   pub filled : (c : BuildCall) → 10 ≤ build c .number → FilledAll (c .lent) (build c .hierarchy)
   pub beyond : (c : BuildCall) → build c .number ≡ 0 → BeyondAll (c .nodes) (c .lent) (build c .hierarchy)
-  -- 10, 11 and 12, at the step that meets them: the arcs after it, the entries with a rank's, the sum of a pair.
+  -- 10, 11 and 12, at the step that meets them: the arcs after it, the entries with a rank's, a pair's sum, whatever the pool.
   pub pool-exceeded : (pool : ℕ) (g : List Arc) → (in-pool pool g ≡ refused 10) ↔ (pool < length g)
   pub table-exceeded : (fwd bwd : ℕ) (ls : List Level) → (in-tables fwd bwd ls ≡ refused 11) ↔ ((fwd < length (raws forward ls)) ⊎ (bwd < length (raws backward ls)))
-  pub sum-exceeded : (pool limit v : ℕ) (s : Arc) (k : Contracting) → (within-sum pool limit v s k ≡ refused 12) ↔ (2 ^ 40 < s .weight)
+  pub sum-exceeded : (pool limit v : ℕ) (a b : Arc) (k : Contracting) → (pair pool limit v a b k ≡ refused 12) ↔ SumExceeded limit v a b k
   -- The table check: 20 exactly when a table rule is broken, and else 0.
   pub check-refused : (n : ℕ) (h : Hierarchy) → (check-refusal n h ≡ 20) ↔ (TableRules n h → ⊥)
   pub check-passes : (n : ℕ) (h : Hierarchy) → (check-refusal n h ≡ 0) ↔ TableRules n h

@@ -5,7 +5,7 @@ use mathlib.Core.Bool.{Bool, true, false, not, _&&_, _||_}
 use mathlib.Core.List.{List, [], _∷_}
 use Prim.Native.Nat.{ℕ}
 use lib.Dec.{eqb, leb}
-use Rattle.rules.specs.Lists.{In, keep}
+use Rattle.rules.specs.Lists.{In, any, keep}
 
 pub record Arc : Type 0 where
   pub tail : ℕ
@@ -46,6 +46,10 @@ reduce s a = elim (leb (a .weight) (s .weight)) [ true ↦ a | false ↦ s ]
 unfoldable pub addOrReduce : Arc → List Arc → List Arc
 addOrReduce s [] = s ∷ []
 addOrReduce s (a ∷ g) = elim (joins s a) [ true ↦ reduce s a ∷ g | false ↦ a ∷ addOrReduce s g ]
+
+-- "[an] arc from a to b that weighs at most the sum is there already"
+unfoldable pub kept : Arc → List Arc → Bool
+kept s g = any (λ a. joins s a && leb (a .weight) (s .weight)) g
 
 -- rule 4: "Remove v's arcs everywhere, the others keeping their order."
 unfoldable pub disconnect : List Arc → ℕ → List Arc

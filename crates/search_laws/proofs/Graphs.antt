@@ -6,9 +6,9 @@ use mathlib.Core.List.{List, [], _∷_, List·Memᴰ·head, List·Memᴰ·tail, 
 use Prim.Native.Nat.{ℕ, _≤_}
 use native.Mathlib.Omega.{arith}
 use lib.Dec.{leb}
-use borrow.Author.Tests.{eqb-true, eq-eqb, ne-eqb, leb-true, leb-false}
-use Rattle.rules.specs.Lists.{In}
-use Rattle.rules.specs.Graph.{Arc, leaves, enters, outs, ins, joins, reduce, addOrReduce, disconnect}
+use borrow.Author.Tests.{eqb-true, eq-eqb, ne-eqb, leb-true, leb-false, le-leb}
+use Rattle.rules.specs.Lists.{In, any}
+use Rattle.rules.specs.Graph.{Arc, leaves, enters, outs, ins, joins, reduce, addOrReduce, kept, disconnect}
 use Rattle.rules.proofs.Arcs.{same-arc, joined-ends}
 use Rattle.rules.proofs.Cases.{on-test}
 use Rattle.rules.proofs.Members.{keep-in, in-keep}
@@ -94,6 +94,23 @@ in-added s (x ∷ g) y m =
       | inl here ↦ inl (List·Memᴰ·head here)
       | inr later ↦ elim (in-added s g y later) [ inl old ↦ inl (List·Memᴰ·tail old) | inr new ↦ inr new ]
     ])
+
+-- Where no arc is heavier than s, an arc of the same ends keeps it out, and is all that is looked for.
+pub kept-joins : (s : Arc) (g : List Arc) → ((x : Arc) → In x g → x .weight ≤ s .weight) → kept s g ≡ any (joins s) g
+unfolding kept any
+kept-joins s [] light = refl
+kept-joins s (a ∷ g) light =
+    on-test (joins s a)
+    (λ t. rw (t, le-leb (a .weight) (s .weight) (light a (List·Memᴰ·head refl))))
+    (λ t. rw t (kept-joins s g (λ x m. light x (List·Memᴰ·tail m))))
+
+pub none-reduced : (s : Arc) (g : List Arc) → ((x : Arc) → In x g → x .weight ≤ s .weight) → any (joins s) g ≡ true → addOrReduce s g ≡ g
+unfolding any addOrReduce reduce
+none-reduced s [] light e = absurd (false≢true e)
+none-reduced s (a ∷ g) light e =
+    on-test (joins s a)
+    (λ t. rw (t, addOrReduce, le-leb (a .weight) (s .weight) (light a (List·Memᴰ·head refl)), reduce))
+    (λ t. rw (t, addOrReduce) (ap (λ l. a ∷ l) (none-reduced s g (λ x m. light x (List·Memᴰ·tail m)) (rw t at e))))
 
 -- Without the arcs at a node.
 untouched : (v : ℕ) (x : Arc) → not (leaves v x || enters v x) ≡ true → (x .tail ≡ v → ⊥) × (x .head ≡ v → ⊥)

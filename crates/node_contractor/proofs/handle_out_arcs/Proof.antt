@@ -13,7 +13,7 @@ use Rattle.search.specs.Searching.{lent}
 use Rattle.search.proofs.Walks.{left-fit, left-room}
 use Rattle.node_contractor.specs.Promises.{Leaving}
 use Rattle.node_contractor.proofs.Pairs.{steps-came, steps-refused}
-use Rattle.node_contractor.proofs.OutArcs.{OutsLeft, outs-all, outs-left, outs-pairing, outs-on, outs-nearer, outs-stop, outs-done}
+use Rattle.node_contractor.proofs.OutArcs.{OutsLeft, outs-all, outs-left, outs-pairing, outs-sum, outs-on, outs-nearer, outs-stop, outs-done}
 use Rattle.node_contractor.proofs.handle_out_arcs.Statement.{statement}
 use Rattle.node_contractor.proofs.handle_out_arcs.Tie as tie
 
@@ -113,7 +113,7 @@ add-sum : tie.Need-add-sum Inv-loop μ-loop
 add-sum c = omega (arith, light (c .before .before .before), (at-loop→start (c .before .before .before .before)) .pre .4 .at .light)
 
 handle-pair-requires : tie.Need-handle-pair-requires Inv-loop μ-loop
-handle-pair-requires c κs = let p = (at-loop→start ((handle-pair-arg4→in-loop (c .before)) .before)) .pre .4 in let y = left ((handle-pair-arg4→in-loop (c .before)) .before) in (_, y .graph, y .search, outs-pairing p y ((handle-pair-arg4→in-loop (c .before)) .loop-test .taken))
+handle-pair-requires c κs = let p = (at-loop→start ((handle-pair-arg4→in-loop (c .before)) .before)) .pre .4 in let y = left ((handle-pair-arg4→in-loop (c .before)) .before) in (_, y .graph, y .search, outs-pairing p y ((handle-pair-arg4→in-loop (c .before)) .loop-test .taken), outs-sum p y ((handle-pair-arg4→in-loop (c .before)) .loop-test .taken))
 
 enum-known-step : tie.Need-enum-known-step Inv-loop μ-loop
 enum-known-step c = search needs
