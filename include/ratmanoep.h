@@ -89,7 +89,7 @@ static inline const char *ratmanoep_sentence(uint32_t number)
         return "ranks below n places, starts below n + 1, a table's columns of unequal length, or scratch below its stated formula";
     case RATMANOEP_POOL_FULL: return "live arcs would exceed the lent pool";
     case RATMANOEP_TABLE_FULL: return "an entry would exceed its table";
-    case RATMANOEP_SUM_TOO_LARGE: return "a pair sum exceeds 2^40";
+    case RATMANOEP_SUM_TOO_LARGE: return "a pair sum exceeds 2^40, with no witness and no arc that weighs at most the sum";
     case RATMANOEP_BAD_TABLES: return "hierarchy breaks a table rule";
     case RATMANOEP_ENDS: return "sources or targets: none, more than 16, or columns differ";
     case RATMANOEP_END_NODE: return "a source or target not below the node count";
@@ -178,7 +178,8 @@ static inline size_t ratmanoep_paths_places(size_t n, size_t pairs)             
  *   9   ranks below n places, starts below n + 1, a table's five other columns of unequal length, or scratch below its formula
  *   10  more arcs than the pool has: lend a larger one (ratmanoep_pool_enough)
  *   11  more entries than a table has: lend a longer one (ratmanoep_entries_enough)
- *   12  the weights of two arcs through a node make more than 2^40
+ *   12  the weights of two arcs through a node make more than 2^40, no way beside the node that weighs at most as much was found
+ *       within the limit, and no arc between the same ends weighs at most as much. A larger limit may find one
  *
  * What the lent places then hold:
  *

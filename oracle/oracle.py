@@ -9,7 +9,7 @@ NO_NODE = 2**32 - 1
 NO_WEIGHT = 2**64 - 1
 MAX_SUM = 2**40
 
-BINARY = Path(__file__).resolve().parent.parent / "target/oracle/oracle"
+MADE = Path(__file__).resolve().parent.parent / "target/oracle"
 
 
 def stop(why):
@@ -32,16 +32,17 @@ def read(path):
         stop(f"{path}: {why}")
 
 
-def need():
-    if not BINARY.exists():
-        stop("the oracle is missing; oracle/build makes it")
+def need(name="oracle"):
+    if not (MADE / name).exists():
+        stop(f"{MADE / name} is missing; oracle/build{' --beside' * (name == 'beside')} makes it")
+    return MADE / name
 
 
 def answers(cases, *flags):
-    """The cases with their answers; the oracle's own complaint, if it has one, has been printed."""
-    need()
+    """The cases with their answers: the oracle's, or with --proved those of the proved code. A complaint has been printed."""
+    binary = need("beside" if "--proved" in flags else "oracle")
     text = "".join(json.dumps(case) + "\n" for case in cases)
-    run = subprocess.run([BINARY, "answer", *flags], input=text, stdout=subprocess.PIPE, text=True)
+    run = subprocess.run([binary, "answer", *flags], input=text, stdout=subprocess.PIPE, text=True)
     if run.returncode != 0:
         sys.exit(2)
     return [json.loads(line) for line in run.stdout.splitlines()]

@@ -9,14 +9,15 @@ L = [(0, 1, 2), (1, 2, 3)]
 SQUARE = [(0, 1, 1), (0, 2, 1), (1, 3, 1), (2, 3, 1)]
 
 
-def line(last, both_ways=False):
-    """Nodes 0 to last in a row, all links as heavy as can be; inner nodes first."""
+def line(last, both_ways=False, direct=(), limit=100):
+    """Nodes 0 to last in a row, all links as heavy as can be, and a link from end to end if it has a weight; inner nodes first."""
     links = [(a, a + 1, HEAVIEST) for a in range(last)]
     if both_ways:
-        links = sorted(links + [(b, a, weight) for a, b, weight in links])
+        links += [(b, a, weight) for a, b, weight in links]
+    links += [(0, last, weight) for weight in direct]
     order = [*range(1, last), 0, last]
     room = 2 * len(links)
-    return shapes.build(last + 1, links, order, 100, pool=room, fwd=room, bwd=room)
+    return shapes.build(last + 1, sorted(links), order, limit, pool=room, fwd=room, bwd=room)
 
 
 def single(source, target):
@@ -49,6 +50,7 @@ BUILT = [
     (shapes.build(3, [(1, 0, 1), (2, 0, 1)], [1, 0, 2], 100), [([(2, MAX_SUM), (1, MAX_SUM)], [(0, 0)])]),
     (line(256), [single(0, 256)]),
     (line(130, both_ways=True), [single(130, 0)]),
+    *((line(257, direct=[1], limit=limit), [single(0, 257), single(1, 257)]) for limit in (0, 1)),
 ]
 
 REFUSED = [

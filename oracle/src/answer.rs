@@ -28,7 +28,7 @@ pub fn answer(case: &mut Json, with_peak: bool) {
     }
 }
 
-fn no_answer(case: &mut Json, why: &str) {
+pub fn no_answer(case: &mut Json, why: &str) {
     case.set("no answer", Json::Word(why.to_string()));
 }
 
@@ -45,7 +45,7 @@ pub struct Lent {
 }
 
 impl Lent {
-    fn of(case: &Json) -> Lent {
+    pub fn of(case: &Json) -> Lent {
         let lent = case.get("lent");
         let five = |name: &str| <[usize; 5]>::try_from(lent.get(name).ids()).unwrap_or_else(|_| fail("a table has five columns"));
         Lent {
@@ -64,7 +64,18 @@ fn build(case: &mut Json, with_peak: bool) {
     let lent = Lent::of(case);
     let filled = case.get("filled_with").number();
     let built = links(case).and_then(|graph| build_within(&graph, &case.get("order").ids(), case.get("limit").id(), &lent));
-    let places = places(&lent, &built, filled);
+    let (number, entries, peak) = match &built {
+        Ok((graph, peak)) => (0, [graph.edges_fwd.len() as u64, graph.edges_bwd.len() as u64], *peak),
+        Err(number) => (*number, [0, 0], 0),
+    };
+    set_built(case, number, entries, &places(&lent, &built, filled));
+    if with_peak {
+        case.set("peak", Json::Number(peak as u64));
+    }
+}
+
+/// A build's number, how many entries each table has, and every lent place in the order of `places`.
+pub fn set_built(case: &mut Json, number: u64, entries: [u64; 2], places: &[Vec<u64>]) {
     let mut columns = places.iter().map(|column| Json::of(column));
     let mut next = || columns.next().unwrap();
     let (ranks, fwd_starts) = (next(), next());
@@ -72,16 +83,9 @@ fn build(case: &mut Json, with_peak: bool) {
     let bwd_starts = next();
     let bwd = Json::List((0..5).map(|_| next()).collect());
     let after = [("ranks", ranks), ("fwd_starts", fwd_starts), ("bwd_starts", bwd_starts), ("fwd", fwd), ("bwd", bwd)];
-    let (number, entries, peak) = match &built {
-        Ok((graph, peak)) => (0, [graph.edges_fwd.len() as u64, graph.edges_bwd.len() as u64], *peak),
-        Err(number) => (*number, [0, 0], 0),
-    };
     case.set("number", Json::Number(number));
     case.set("entries", Json::of(&entries));
     case.set("after", Json::Object(after.map(|(name, column)| (name.to_string(), column)).into()));
-    if with_peak {
-        case.set("peak", Json::Number(peak as u64));
-    }
 }
 
 /// The hierarchy and the most live arcs, or the number of the refusal.
@@ -190,9 +194,13 @@ pub fn entry(e: &FastGraphEdge) -> [u64; 5] {
 fn query(case: &mut Json) {
     let asked = Asked::of(case);
     let found = query_within(Tables::of(case).read().as_ref(), &asked);
-    let Some(Answered { number, weight, length, path }) = handed_back(&asked, found) else {
-        return no_answer(case, "an entry opens into more than 2^20 links");
-    };
+    match handed_back(&asked, found) {
+        Some(answered) => set_answered(case, answered),
+        None => no_answer(case, "an entry opens into more than 2^20 links"),
+    }
+}
+
+pub fn set_answered(case: &mut Json, Answered { number, weight, length, path }: Answered) {
     case.set("number", Json::Number(number));
     case.set("weight", Json::Number(weight));
     case.set("length", Json::Number(length as u64));
@@ -237,7 +245,7 @@ pub struct Asked {
 }
 
 impl Asked {
-    fn of(case: &Json) -> Asked {
+    pub fn of(case: &Json) -> Asked {
         Asked {
             sources: Ends::of(case.get("sources")),
             targets: Ends::of(case.get("targets")),

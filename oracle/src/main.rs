@@ -36,6 +36,10 @@ mod node_contractor {
             (self.from, self.to)
         }
 
+        pub fn weight(&self) -> Weight {
+            self.weight
+        }
+
         pub fn add_to(self, graph: &mut PreparationGraph) {
             add_shortcut(graph, self)
         }
@@ -106,8 +110,10 @@ fn fail(why: &str) -> ! {
 fn main() {
     let args: Vec<String> = std::env::args().skip(1).collect();
     match args.iter().map(String::as_str).collect::<Vec<_>>()[..] {
-        ["answer"] => answer_all(false),
-        ["answer", "--peak"] => answer_all(true),
+        ["answer"] => answer_all(|case| answer::answer(case, false)),
+        ["answer", "--peak"] => answer_all(|case| answer::answer(case, true)),
+        #[cfg(beside)]
+        ["answer", "--proved"] => answer_all(beside::answer),
         ["records"] => answer_records(),
         #[cfg(beside)]
         ["beside", ref words @ ..] => beside::run(words),
@@ -120,11 +126,11 @@ fn main() {
 }
 
 /// Standard input holds one case a line; each is printed again with its answer.
-fn answer_all(with_peak: bool) {
+fn answer_all(answer: impl Fn(&mut json::Json)) {
     let mut out = BufWriter::new(std::io::stdout().lock());
     for line in std::io::stdin().lock().lines() {
         let mut case = json::Json::read(&line.unwrap_or_else(|why| fail(&why.to_string())));
-        answer::answer(&mut case, with_peak);
+        answer(&mut case);
         if writeln!(out, "{case}").is_err() {
             return; // whoever read the answers has gone
         }

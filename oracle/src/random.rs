@@ -72,6 +72,46 @@ fn sparse(numbers: &mut Rng, nodes: usize) -> InputGraph {
     InputGraph::new(nodes, ends.into_iter().map(edge).collect())
 }
 
+/// A line of links as heavy as can be, long enough for sums around 2^40, and an order that makes them: with ways back, or with a few links
+/// and nodes beside it, so that some sums have a witness and others an arc of the same ends.
+pub fn long_line(numbers: &mut Rng) -> (InputGraph, Vec<usize>) {
+    const HEAVIEST: usize = u32::MAX as usize;
+    let back = below(numbers, 4) == 0;
+    let last = if back { 128 + below(numbers, 5) } else { 255 + below(numbers, 5) };
+    let nodes = last + 1 + below(numbers, 4);
+    let mut links = std::collections::BTreeMap::new();
+    for node in 0..last {
+        links.insert((node, node + 1), HEAVIEST);
+        if back {
+            links.insert((node + 1, node), HEAVIEST);
+        }
+    }
+    if below(numbers, 3) > 0 {
+        // the sum of 257 links is 2^40 and a little, whichever way
+        links.insert((last - 1, last), 254 + below(numbers, 5));
+    }
+    for _ in 0..below(numbers, 6) {
+        let weight = [1, 1 + below(numbers, HEAVIEST), HEAVIEST][below(numbers, 3)];
+        let off = last + below(numbers, nodes - last);
+        let (from, to) = [(0, last), (0, off), (off, last), (below(numbers, nodes), below(numbers, nodes)), (below(numbers, 3), last)][below(numbers, 5)];
+        if from != to {
+            links.insert((from, to), weight);
+        }
+    }
+    let edges = links.into_iter().map(|((from, to), weight)| Edge { from, to, weight: weight as u64 }).collect();
+    let mut order = match below(numbers, 3) {
+        0 => shuffled(numbers, nodes),
+        1 => (0..nodes).rev().collect(),
+        _ => (0..nodes).collect(),
+    };
+    if below(numbers, 8) > 0 {
+        // the ends of the line last
+        order.retain(|&node| node != 0 && node != last);
+        order.extend([0, last]);
+    }
+    (InputGraph::new(nodes, edges), order)
+}
+
 pub fn shuffled(numbers: &mut Rng, nodes: usize) -> Vec<usize> {
     let mut order: Vec<usize> = (0..nodes).collect();
     for k in (1..nodes).rev() {

@@ -82,7 +82,7 @@ fn time_builds(mesh: &Mesh) {
     let Mesh { name, graph, order, built } = mesh;
     let (fwd, bwd) = (built.edges_fwd.len(), built.edges_bwd.len());
     let enough = Room { pool: usize::MAX, fwd, bwd };
-    let Ok(pool) = contract_within(graph, order, LIMIT, &enough) else { fail("a pair sum exceeds 2^40") };
+    let Ok(pool) = contract_within(graph, order, LIMIT, &enough) else { fail("a pair sum is refused") };
     let call = Build::new(graph, order, LIMIT as u32).within(&Room { pool, fwd, bwd });
     let entries = |[fwd, bwd]: [usize; 2]| fwd + bwd;
     let [ours, theirs] = best_of([

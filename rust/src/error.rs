@@ -46,7 +46,7 @@ refusals! {
     BuildRoom = 9: "ranks below n places, starts below n + 1, a table's columns of unequal length, or scratch below its stated formula",
     PoolFull = 10: "live arcs would exceed the lent pool",
     TableFull = 11: "an entry would exceed its table",
-    SumTooLarge = 12: "a pair sum exceeds 2^40",
+    SumTooLarge = 12: "a pair sum exceeds 2^40, with no witness and no arc that weighs at most the sum",
     BadTables = 20: "hierarchy breaks a table rule",
     Ends = 21: "sources or targets: none, more than 16, or columns differ",
     EndNode = 22: "a source or target not below the node count",

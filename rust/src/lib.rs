@@ -63,7 +63,8 @@ mod shortest_path;
 /// Prepares a frozen graph for queries, in an order that names each node once: the first is contracted first.
 ///
 /// Refusals: 1 more than 1,024 nodes, 2 more than 16,384 edges, 7 an order of another length than the node count, 8 an order with a node
-/// twice or beyond the count, 12 two edges through a node that weigh more than 2^40 together.
+/// twice or beyond the count, 12 two edges through a node that weigh more than 2^40 together where
+/// no other way of at most that weight was found, and no edge of at most that weight joins the same ends.
 ///
 /// ```
 /// # use ratmanoep::{prepare_with_order, Error, InputGraph, Refusal};

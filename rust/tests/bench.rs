@@ -90,14 +90,16 @@ fn node_counts() {
 
 #[test]
 fn the_long_line() {
-    let line = |last: usize| {
-        let links: Vec<Link> = (0..last).map(|k| (k, k + 1, 4_294_967_295)).collect();
+    let line = |last: usize, beside: &[Link]| {
+        let links: Vec<Link> = (0..last).map(|k| (k, k + 1, 4_294_967_295)).chain(beside.iter().copied()).collect();
         let order: Vec<usize> = (1..last).chain([0, last]).collect();
         prepare(&links, &order)
     };
-    let path = calc_path(&line(256).unwrap(), 0, 256).unwrap().unwrap();
+    let path = calc_path(&line(256, &[]).unwrap(), 0, 256).unwrap().unwrap();
     assert_eq!((path.get_weight(), path.get_nodes().len()), (256 * 4_294_967_295, 257));
-    assert_eq!(number(line(257)), Some(12));
+    assert_eq!(number(line(257, &[])), Some(12));
+    // a way beside the sum that is too large
+    assert_eq!(told(calc_path(&line(257, &[(0, 257, 1)]).unwrap(), 0, 257).unwrap()), Some((1, vec![0, 257])));
 }
 
 #[test]

@@ -16,6 +16,7 @@ use Rattle.rules.specs.Program.{digits, lines}
 use Rattle.rules.proofs.Accepted.{accepted-build}
 use Rattle.rules.proofs.Outcomes.{early, late, whole, ended}
 use Rattle.walks.proofs.Cut.{cut-agrees}
+use Rattle.walks.proofs.Places.{used-entry}
 use Rattle.search_laws.specs.Paid.{Paid}
 use Rattle.search_laws.proofs.Bounds.{paid-heap, init-paid, added-paid, search-paid, run-enough, search-fuel-enough}
 use Rattle.build_laws.proofs.Refused.{build-half}
@@ -87,6 +88,7 @@ demands =
       cut-tables-agree = cut-agrees;
       ranks-inverse = λ c b. ranks-inverse c (b .weights) (b .number);
       no-neighbour-twice = λ c b. no-neighbour-twice c (b .weights) (b .number);
+      table-weights = λ c b s e below. used-entry (c .nodes) (build c .hierarchy) (build-half c (b .weights) (b .number) .rules) s e below .weight-high;
       never-10 =
           λ c small room e.
           let l = from-contraction c 10 e (omega arith) in

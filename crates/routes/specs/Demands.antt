@@ -42,12 +42,13 @@ pub record Demands : Type 0 where
   -- 1. The third demand.
   pub third-demand : ThirdDemand
   -- 2. A build's tables pass the table check, also cut to the used places; ranks are the order's inverse; no neighbour twice in a
-  -- node's entries.
+  -- node's entries; no weight above 2^40, though sums above it are looked into.
   pub tables-pass : (c : BuildCall) → IsBuilt c → check-refusal (c .nodes) (build c .hierarchy) ≡ 0
   pub cut-tables-pass : (c : BuildCall) → IsBuilt c → check-refusal (c .nodes) (cut (c .nodes) (build c .hierarchy)) ≡ 0
   pub cut-tables-agree : (n : ℕ) (h : Hierarchy) → Agree n h (cut n h)
   pub ranks-inverse : (c : BuildCall) → IsBuilt c → (r : ℕ) → r < c .nodes → rank (build c .hierarchy) (getD (c .order) r 0) ≡ r
   pub no-neighbour-twice : (c : BuildCall) → IsBuilt c → (s : Side) (v : ℕ) → v < c .nodes → distinct (map (λ e. e .neighbour) (entries (build c .hierarchy) s v)) ≡ true
+  pub table-weights : (c : BuildCall) → IsBuilt c → (s : Side) (e : ℕ) → e < used (c .nodes) (table (build c .hierarchy) s) → entry (table (build c .hierarchy) s) e .weight ≤ maxWeight
   -- 3. Refusals that cannot come, and what stays in its range: of a search after each target, of a query after each round.
   -- (In the midst of a turn: query_laws/proofs Taken and Bounds.)
   pub never-10 : (c : BuildCall) → ((w : ℕ) → In w (c .links .weights) → w ≤ maxLinkWeight) → c .nodes * (c .nodes - 1) ≤ c .pool → build c .number ≡ 10 → ⊥

@@ -1,7 +1,7 @@
 -- The edges of the calls' rules, as cases: just enough and one place less of all that is lent, the largest numbers and one
 -- more, a walk that is longer than the buffer, and what a step does where a rule turns.
 use mathlib.Core.Path.{_≡_, refl}
-use mathlib.Core.List.{List, [], _∷_, map}
+use mathlib.Core.List.{List, [], _∷_, _++_, map}
 use Prim.Native.Nat.{ℕ, suc, _+_, _-_, _^_}
 use lib.ListN.{getD, set, replicate}
 use Rattle.rules.specs.Numbers.{invalid}
@@ -97,14 +97,16 @@ L-starting starts =
 unfoldable pub L-ranked : List ℕ → Hierarchy
 L-ranked ranks = record { ranks = ranks; forward = L-built .forward; backward = L-built .backward }
 
--- The node 1 of four is contracted first, with room for any graph of theirs; `most` is the most that an arc may weigh.
+-- The node 1 of five is contracted first, with room for any graph of theirs; `most` is the most that an arc may weigh.
 unfoldable pub most : ℕ
 most = 2 ^ 40
 
 unfoldable pub contracting-1 : ℕ → ℕ → List Link → BuildCall
 contracting-1 limit pool ls =
-    lending (record { nodes = 4; links = ls; order = 1 ∷ 0 ∷ 3 ∷ 2 ∷ []; limit = limit }) (4 ∷ 5 ∷ 6 ∷ 6 ∷ 6 ∷ 6 ∷ 6 ∷ 5 ∷ 6 ∷ 6 ∷ 6 ∷ 6 ∷ 6 ∷ []) pool
-    (build-scratch 4 pool)
+    lending (record { nodes = 5; links = ls; order = 1 ∷ 0 ∷ 3 ∷ 2 ∷ 4 ∷ []; limit = limit })
+    (5 ∷ 6 ∷ replicate 5 10 ++ 6 ∷ replicate 5 10)
+    pool
+    (build-scratch 5 pool)
 
 -- All of the above, where a case is computed.
 unfoldable pub edging : Unit {0}
@@ -182,18 +184,21 @@ pub largest-sum : built (lending (L-of (2 ^ 39) (2 ^ 39)) L-places 3 L-scratch �
 unfolding edging
 largest-sum = refl
 
--- a witness that weighs more than 2^40 itself; the limit, before it is found
-pub heavy-witness : built (map (λ limit. contracting-1 limit 12 (link 0 1 most ∷ link 0 2 most ∷ link 1 3 most ∷ link 2 3 most ∷ [])) (2 ∷ 1 ∷ [])) ≡ 0 ∷ 12 ∷ []
+-- a witness that weighs more than 2^40 itself, and that passes a node above it; the limit, before it is found
+pub heavy-witness : built
+    (map (λ limit. contracting-1 limit 20 (link 0 1 most ∷ link 0 2 most ∷ link 1 4 most ∷ link 2 4 most ∷ [])) (2 ∷ 1 ∷ []) ++
+    map (λ limit. contracting-1 limit 20 (link 0 1 most ∷ link 0 2 most ∷ link 1 4 most ∷ link 2 3 1 ∷ link 3 4 (most - 1) ∷ [])) (3 ∷ 2 ∷ [])) ≡
+    0 ∷ 12 ∷ 0 ∷ 12 ∷ []
 unfolding edging
 heavy-witness = refl
 
 -- an arc of the same ends, with a search and with none; as heavy as the sum, and heavier by one
 pub arc-there-already : built
-    (contracting-1 1 12 (link 0 1 most ∷ link 0 2 1 ∷ link 1 2 most ∷ []) ∷
-    contracting-1 0 12 (link 0 1 most ∷ link 0 2 1 ∷ link 1 2 most ∷ []) ∷
-    contracting-1 0 12 (link 0 1 most ∷ link 0 2 (2 ^ 41) ∷ link 1 2 most ∷ []) ∷
-    contracting-1 0 12 (link 0 1 most ∷ link 0 2 (2 ^ 41 + 1) ∷ link 1 2 most ∷ []) ∷
-    contracting-1 9 12 (link 0 1 most ∷ link 0 2 (2 ^ 41 + 1) ∷ link 1 2 most ∷ []) ∷
+    (contracting-1 1 20 (link 0 1 most ∷ link 0 2 1 ∷ link 1 2 most ∷ []) ∷
+    contracting-1 0 20 (link 0 1 most ∷ link 0 2 1 ∷ link 1 2 most ∷ []) ∷
+    contracting-1 0 20 (link 0 1 most ∷ link 0 2 (2 ^ 41) ∷ link 1 2 most ∷ []) ∷
+    contracting-1 0 20 (link 0 1 most ∷ link 0 2 (2 ^ 41 + 1) ∷ link 1 2 most ∷ []) ∷
+    contracting-1 9 20 (link 0 1 most ∷ link 0 2 (2 ^ 41 + 1) ∷ link 1 2 most ∷ []) ∷
     []) ≡
     0 ∷ 0 ∷ 0 ∷ 12 ∷ 12 ∷ []
 unfolding edging
@@ -201,9 +206,9 @@ arc-there-already = refl
 
 -- arcs from the same tail, to the same head, and the other way
 pub other-arcs : built
-    (contracting-1 0 12 (link 0 1 most ∷ link 0 3 1 ∷ link 1 2 most ∷ []) ∷
-    contracting-1 0 12 (link 0 1 most ∷ link 1 2 most ∷ link 3 2 1 ∷ []) ∷
-    contracting-1 0 12 (link 0 1 most ∷ link 1 2 most ∷ link 2 0 1 ∷ []) ∷
+    (contracting-1 0 20 (link 0 1 most ∷ link 0 3 1 ∷ link 1 2 most ∷ []) ∷
+    contracting-1 0 20 (link 0 1 most ∷ link 1 2 most ∷ link 3 2 1 ∷ []) ∷
+    contracting-1 0 20 (link 0 1 most ∷ link 1 2 most ∷ link 2 0 1 ∷ []) ∷
     []) ≡
     12 ∷ 12 ∷ 12 ∷ []
 unfolding edging

@@ -15,7 +15,7 @@ maxEnds = 16
 abbrev pub maxLinkWeight : ℕ
 maxLinkWeight = 2 ^ 32 - 1
 
--- of a pair sum, of a table weight and of an offset that counts
+-- of an arc, and so of a pair sum that becomes one and of a table weight; of an offset that counts
 abbrev pub maxWeight : ℕ
 maxWeight = 2 ^ 40
 

@@ -7,7 +7,7 @@ use crate::fail;
 use crate::input_graph::{Edge, InputGraph};
 use crate::lent::{below_formula, build_scratch, build_with_order, ids, wide, BuildScratch, Columns, Table, FILLED};
 use crate::meshes::Rng;
-use crate::random::{any_column, any_number, below, random_graph, shuffled};
+use crate::random::{any_column, any_number, below, long_line, random_graph, shuffled};
 use crate::room::{contract_within, Room};
 use crate::tiny;
 
@@ -31,11 +31,16 @@ pub struct Ours {
 
 impl Ours {
     pub fn lent(call: &Call) -> Ours {
+        Ours::filled(call, FILLED)
+    }
+
+    /// With every lent place holding this before.
+    pub fn filled(call: &Call, filled: u32) -> Ours {
         let Lent { ranks, fwd_starts, bwd_starts, fwd, bwd, .. } = &call.lent;
         Ours {
-            ranks: vec![FILLED; *ranks],
-            fwd: Table::filled(*fwd_starts, fwd, FILLED),
-            bwd: Table::filled(*bwd_starts, bwd, FILLED),
+            ranks: vec![filled; *ranks],
+            fwd: Table::filled(*fwd_starts, fwd, filled),
+            bwd: Table::filled(*bwd_starts, bwd, filled),
             scratch: BuildScratch::new(call.scratch),
         }
     }
@@ -59,7 +64,7 @@ impl Ours {
         [&self.fwd, &self.bwd].map(|table| table.starts[nodes] as usize)
     }
 
-    fn places(&self) -> Vec<Vec<u64>> {
+    pub fn places(&self) -> Vec<Vec<u64>> {
         [wide(&self.ranks)].into_iter().chain(self.fwd.places()).chain(self.bwd.places()).collect()
     }
 }
@@ -161,13 +166,33 @@ impl Builds {
         }
     }
 
-    /// The lines of document 01: 256 links of the largest weight, one more, and pair sums of 2^40 and one more.
+    /// The lines of document 01: 256 links of the largest weight, one more, and pair sums of 2^40 and one more; each also with a link of 1 from
+    /// end to end.
     fn lines(&mut self) {
         for (links, last) in [(256, u32::MAX), (257, u32::MAX), (257, 256), (257, 257)] {
             let edge = |i| Edge { from: i, to: i + 1, weight: if i + 1 == links { last as u64 } else { u32::MAX as u64 } };
-            let graph = InputGraph::new(links + 1, (0..links).map(edge).collect());
             let order: Vec<NodeId> = (1..links).chain([0, links]).collect();
-            self.add("the long line", &Call::new(&graph, &order, 100));
+            let mut edges: Vec<Edge> = (0..links).map(edge).collect();
+            self.add("the long line", &Call::new(&InputGraph::new(links + 1, edges.clone()), &order, 100));
+            edges.insert(1, Edge { from: 0, to: links, weight: 1 });
+            let graph = InputGraph::new(links + 1, edges);
+            for limit in [0, 1, 2, 100] {
+                self.add("it with a link from end to end", &Call::new(&graph, &order, limit));
+            }
+        }
+    }
+
+    /// Sums around 2^40, with room for them, about as much, or too little.
+    fn long_lines(&mut self, numbers: &mut Rng) {
+        let (graph, order) = long_line(numbers);
+        let arcs = graph.get_edges().len();
+        let limit = [0, 1, 2, 3, graph.get_num_nodes() as u32, 100][below(numbers, 6)];
+        let mut some = |whole: usize| if below(numbers, 3) == 0 { arcs + below(numbers, 9) } else { whole };
+        let room = Room { pool: some(4 * arcs), fwd: some(4 * arcs), bwd: some(4 * arcs) };
+        let call = Call::new(&graph, &order, limit).within(&room);
+        self.add("long lines", &call);
+        if below(numbers, 50) == 0 {
+            self.edges("long lines with just enough room, and one place less of each", &call);
         }
     }
 }
@@ -224,6 +249,9 @@ impl Part for Builds {
     fn round(&mut self, numbers: &mut Rng, round: usize) {
         if round % 8 == 7 {
             return self.add("any numbers", &Call::any(numbers));
+        }
+        if round % 50 == 25 {
+            self.long_lines(numbers);
         }
         let graph = random_graph(numbers, round);
         let call = random_call(numbers, &graph);

@@ -2,15 +2,16 @@
 //! cases from numbers of its own, answers each by both, and stops at the first that differs.
 
 mod builds;
+mod cases;
 mod checks;
 mod queries;
 mod records;
 mod routes;
 
 pub use builds::{Call as Build, Ours};
+pub use cases::answer;
 pub use queries::Subject;
 pub use records::{densest as densest_records, longest as longest_records, ENOUGH};
-
 
 use crate::fail;
 use crate::guard::guard_all;

@@ -47,6 +47,11 @@ impl Subject {
         self.checked.as_ref().map_or([0; 4], lengths)
     }
 
+    /// What our query hands back, in scratch by the formula.
+    pub fn answer(&self, asked: Asked) -> Answered {
+        Call { subject: self, asked, scratch: self.scratch(), rubbish: 9 }.ours()
+    }
+
     fn call(&self, sources: Ends, targets: Ends) -> Call<'_> {
         let asked = Asked { sources, targets, places: self.nodes(), filled: FILLED as u64, scratch_short: false };
         Call { subject: self, asked, scratch: self.scratch(), rubbish: 9 }
@@ -75,9 +80,9 @@ struct Call<'a> {
 
 impl Call<'_> {
     fn ours(&self) -> Answered {
-        let Asked { sources, targets, places, .. } = &self.asked;
+        let Asked { sources, targets, places, filled, .. } = &self.asked;
         let [from, to] = [sources, targets].map(|ends| ends.nodes.iter().map(|&node| node as u32).collect::<Vec<u32>>());
-        let mut path = vec![FILLED; *places];
+        let mut path = vec![*filled as u32; *places];
         let mut scratch = self.scratch.map(|length| vec![self.rubbish; length]);
         let (number, weight, length) = self.subject.ours.query((&from, &sources.offsets), (&to, &targets.offsets), &mut path, &mut scratch);
         Answered { number: number as u64, weight, length, path: wide(&path) }
