@@ -6,15 +6,16 @@ use mathlib.Core.List.{List, [], _∷_, List·Memᴰ·head, List·Memᴰ·tail, 
 use Prim.Native.Nat.{ℕ, _+_, _≤_, _<_}
 use native.Mathlib.Omega.{arith}
 use native.Mathlib.Decide.{ℕ-discrete}
-use lib.Dec.{eqb, ltb, leb}
+use lib.Dec.{leb}
 use lib.ListN.{length}
-use borrow.Author.Tests.{eqb-true, eqb-false, ltb-false, leb-true}
+use borrow.Author.Tests.{leb-true}
 use Rattle.rules.specs.Numbers.{maxWeight, noWeight}
 use Rattle.rules.specs.Graph.{Arc, outs, ins, Loopless, addOrReduce, kept, disconnect}
-use Rattle.rules.specs.Search.{init, Found, find-max-weight}
-use Rattle.rules.specs.Build.{went, in-pool, Contracting, shortcut, add, unless-kept, within-sum, unless-witness, ask, pair, pairs-of, handle-shortcuts, contract-node}
+use Rattle.rules.specs.Search.{init}
+use Rattle.rules.specs.Build.{went, in-pool, Contracting, shortcut, add, pair, pairs-of, handle-shortcuts, contract-node}
 use Rattle.rules.specs.Lists.{In}
 use Rattle.rules.proofs.Arcs.{kept-in}
+use Rattle.rules.proofs.Pairs.{sought, searched, dropped, witness, unwitnessed, there, too-large, new, pair-goes}
 use Rattle.rules.proofs.Cases.{on-test}
 use Rattle.rules.proofs.Steps.{went-same, refused-not-went, both-went}
 use Rattle.walks.specs.Paths.{Path, stay, step, Within}
@@ -31,56 +32,31 @@ pool-held pool g k e =
     (λ t. absurd (refused-not-went (rw (t, in-pool) at e)))
 
 module _ (pool limit v : ℕ) where
-  -- what the search of a pair answers
-  abbrev pub sought : Arc → Arc → Contracting → Found
-  sought a b c = find-max-weight (c .graph) v limit (shortcut pool limit v a b .head) (shortcut pool limit v a b .weight) (c .search)
-
-  -- A pair that went: it was dropped, or a witness was found, or an arc of no more was there, or its shortcut was added.
+  -- A pair that went: it was dropped; or nothing was put in, for a witness or an arc of no more; or its shortcut was added.
   pub data Put (a b : Arc) (c k : Contracting) : Type 0 where
-    witness : k .graph ≡ c .graph → sought a b c .weight ≤ a .weight + b .weight → Put a b c k
-    there : k .graph ≡ c .graph → kept (shortcut pool limit v a b) (c .graph) ≡ true → Put a b c k
-    new : k .graph ≡ addOrReduce (shortcut pool limit v a b) (c .graph) → a .weight + b .weight ≤ maxWeight → length (k .graph) ≤ pool → Put a b c k
+    no-pair : a .tail ≡ b .head → k ≡ c → Put a b c k
+    kept-out : (a .tail ≡ b .head → ⊥) → (sought limit v a b c .weight ≤ a .weight + b .weight) ⊎ (kept (shortcut pool limit v a b) (c .graph) ≡ true) →
+        k ≡ searched limit v a b c → Put a b c k
+    added : (a .tail ≡ b .head → ⊥) → a .weight + b .weight ≤ maxWeight → length (addOrReduce (shortcut pool limit v a b) (c .graph)) ≤ pool →
+        k ≡ record { graph = addOrReduce (shortcut pool limit v a b) (c .graph); search = sought limit v a b c .search } → Put a b c k
 
-  pub record Sought (a b : Arc) (c k : Contracting) : Type 0 where
-    pub apart : a .tail ≡ b .head → ⊥
-    pub search : k .search ≡ sought a b c .search
-    pub put : Put a b c k
-
-  pub pair-went : (a b : Arc) (c k : Contracting) → pair pool limit v a b c ≡ went k → ((a .tail ≡ b .head) × (k ≡ c)) ⊎ Sought a b c k
-  unfolding pair ask unless-witness within-sum unless-kept add shortcut
+  pub pair-went : (a b : Arc) (c k : Contracting) → pair pool limit v a b c ≡ went k → Put a b c k
+  unfolding add shortcut
   pair-went a b c k e =
-      on-test (eqb (a .tail) (b .head))
-      (λ t. inl (eqb-true (a .tail) (b .head) t, sym (went-same (rw (t, pair) at e))))
-      (λ t.
-      let apart = eqb-false (a .tail) (b .head) t in
-      inr
-      (on-test (leb (sought a b c .weight) (a .weight + b .weight))
-      (λ w.
-      let same = sym (went-same (rw (t, pair, w, unless-witness) at e)) in
-      record {
-        apart = apart;
-        search = ap (λ x. x .search) same;
-        put = witness (ap (λ x. x .graph) same) (leb-true (sought a b c .weight) (a .weight + b .weight) w);
-      })
-      (λ w.
-      on-test (ltb maxWeight (a .weight + b .weight))
-      (λ u.
-      on-test (kept (shortcut pool limit v a b) (c .graph))
-      (λ y.
-      let same = sym (went-same (rw (t, pair, w, unless-witness, u, within-sum, y, unless-kept) at e)) in
-      record { apart = apart; search = ap (λ x. x .search) same; put = there (ap (λ x. x .graph) same) y })
-      (λ y. absurd (refused-not-went (rw (t, pair, w, unless-witness, u, within-sum, y, unless-kept) at e))))
-      (λ u.
-      let added = rw (t, pair, w, unless-witness, u, within-sum) at e in
-      let steps = both-went (in-pool pool (addOrReduce (shortcut pool limit v a b) (c .graph))) _ k added in
-      let held = pool-held pool (addOrReduce (shortcut pool limit v a b) (c .graph)) (steps .0) (steps .1) in
-      let same = sym (went-same (steps .2)) in
-      let graph = ap (λ x. x .graph) same ∙ held .0 in
-      record {
-        apart = apart;
-        search = ap (λ x. x .search) same;
-        put = new graph (ltb-false maxWeight (a .weight + b .weight) u) (rw graph (held .1));
-      }))))
+      elim (pair-goes limit v a b c) [
+        | dropped same is ↦ no-pair same (sym (went-same (sym (is pool) ∙ e)))
+        | witness differ found is ↦ kept-out differ (inl found) (sym (went-same (sym (is pool) ∙ e)))
+        | unwitnessed differ _ u ↦
+            elim u [
+              | there _ test is ↦ kept-out differ (inr test) (sym (went-same (sym (is pool) ∙ e)))
+              | too-large _ _ is ↦ absurd (refused-not-went (sym (is pool) ∙ e))
+              | new small is ↦
+                  let steps = both-went (in-pool pool (addOrReduce (shortcut pool limit v a b) (c .graph))) _ k (sym (is pool) ∙ e) in
+                  let held = pool-held pool (addOrReduce (shortcut pool limit v a b) (c .graph)) (steps .0) (steps .1) in
+                  added differ small (held .1)
+                  (sym (went-same (steps .2)) ∙ ap (λ g. record { graph = g; search = sought limit v a b c .search }) (held .0))
+            ]
+      ]
 
   -- What every shortcut of a contraction keeps, the contraction keeps.
   module _ (P : List Arc → Type 0) where
@@ -93,15 +69,9 @@ module _ (pool limit v : ℕ) where
     pub pair-keeps : (a b : Arc) (c k : Contracting) → Adds (a ∷ []) (b ∷ []) → pair pool limit v a b c ≡ went k → P (c .graph) → P (k .graph)
     pair-keeps a b c k adds e x =
         elim (pair-went a b c k e) [
-          | inl dropped ↦ rw (dropped .1) x
-          | inr s ↦
-              elim (s .put) [
-                | witness same _ ↦ rw same x
-                | there same _ ↦ rw same x
-                | new added small room ↦
-                    rw added
-                    (adds a b (c .graph) (List·Memᴰ·head refl) (List·Memᴰ·head refl) (s .apart) small (rw added at room) x)
-              ]
+          | no-pair _ same ↦ rw same x
+          | kept-out _ _ same ↦ rw same x
+          | added differ small room same ↦ rw same (adds a b (c .graph) (List·Memᴰ·head refl) (List·Memᴰ·head refl) differ small room x)
         ]
 
     pub pairs-of-keeps : (a : Arc) (bs : List Arc) (c k : Contracting) → Adds (a ∷ []) bs → pairs-of pool limit v a bs c ≡ went k → P (c .graph) → P (k .graph)
@@ -136,17 +106,13 @@ module _ (pool limit v : ℕ) where
     pair-walked : (b : Arc) (c k : Contracting) → pair pool limit v a b c ≡ went k →
         Walked (Avoiding v (c .graph)) (a .tail) (c .search) → Walked (Avoiding v (k .graph)) (a .tail) (k .search)
     pair-walked b c k e x =
+        let y = search-walked (c .graph) v away limit (b .head) (a .weight + b .weight) (c .search) x in
         elim (pair-went a b c k e) [
-          | inl dropped ↦ rw (dropped .1) x
-          | inr s ↦
-              let y = search-walked (c .graph) v away limit (shortcut pool limit v a b .head) (shortcut pool limit v a b .weight) (c .search) x in
-              elim (s .put) [
-                | witness same _ ↦ rw (s .search, same) y
-                | there same _ ↦ rw (s .search, same) y
-                | new added _ _ ↦
-                    rw (s .search, added)
-                    (walked-lighter (avoiding-lighter v (c .graph) _ (lighter-after-add (shortcut pool limit v a b) (c .graph))) y)
-              ]
+          | no-pair _ same ↦ rw same x
+          | kept-out _ _ same ↦ rw same y
+          | added _ _ _ same ↦
+              rw same
+              (walked-lighter (avoiding-lighter v (c .graph) _ (lighter-after-add (shortcut pool limit v a b) (c .graph))) y)
         ]
 
     -- a witness, the arc that was there, or the shortcut itself
@@ -156,24 +122,23 @@ module _ (pool limit v : ℕ) where
     unfolding shortcut
     pair-covers b c k e x modest off apart =
         elim (pair-went a b c k e) [
-          | inl dropped ↦ absurd (apart (dropped .0))
-          | inr s ↦
-              elim (s .put) [
-                | witness same found ↦
-                    rw same
-                    (within-more
+          | no-pair same _ ↦ absurd (apart same)
+          | kept-out _ why same ↦
+              rw same
+              (elim why [
+                | inl found ↦
+                    within-more
                     (answer-walked (c .graph) v away limit (b .head) (a .weight + b .weight) (c .search) x (omega arith))
-                    found)
-                | there same test ↦
+                    found
+                | inr test ↦
                     let y = kept-in (shortcut pool limit v a b) (c .graph) test in
-                    rw same
-                    (within-more
+                    within-more
                     (edge-within (y .0 .centre, disconnected-in _ v _ (rw (by-ends (y .0) (y .2) (y .3)) (y .1)) away off))
-                    (y .4))
-                | new added _ _ ↦
-                    let f = added-within (shortcut pool limit v a b) (c .graph) in
-                    rw added (within-more (edge-within (f .1 .0, disconnected-in _ v _ (f .1 .1) away off)) (f .2))
-              ]
+                    (y .4)
+              ])
+          | added _ _ _ same ↦
+              let f = added-within (shortcut pool limit v a b) (c .graph) in
+              rw same (within-more (edge-within (f .1 .0, disconnected-in _ v _ (f .1 .1) away off)) (f .2))
         ]
 
     -- one in-arc with each out-arc

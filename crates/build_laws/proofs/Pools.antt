@@ -1,19 +1,18 @@
 -- A pool of n(n - 1) places is as good as any larger one.
-use mathlib.Core.Path.{_≡_, refl, _∙_, ap}
+use mathlib.Core.Path.{_≡_, refl, sym, _∙_, ap}
 use mathlib.Core.List.{List, [], _∷_, List·Memᴰ·head, List·Memᴰ·tail, List·Memᴰ·eq-of-singleton}
 use Prim.Native.Nat.{ℕ, suc, _+_, _-_, _*_, _≤_}
 use native.Mathlib.Omega.{arith}
-use lib.Dec.{eqb, ltb, leb}
 use lib.ListN.{length}
-use borrow.Author.Tests.{eqb-false, ltb-false, le-leb}
+use borrow.Author.Tests.{le-leb}
 use Rattle.rules.specs.Numbers.{maxLinkWeight, maxWeight}
 use Rattle.rules.specs.Lists.{In}
 use Rattle.rules.specs.Columns.{linkList}
 use Rattle.rules.specs.Refusals.{BuildCall}
 use Rattle.rules.specs.Graph.{Arc, outs, ins, addOrReduce}
-use Rattle.rules.specs.Search.{init, find-max-weight}
-use Rattle.rules.specs.Build.{Step, went, refused, and-then, in-pool, from-links, graph-of, Contracting, shortcut, add, unless-kept, within-sum, unless-witness, ask, pair, pairs-of, handle-shortcuts, contract-node, Level, Building, rank-step, rank-steps, contraction}
-use Rattle.rules.proofs.Cases.{on-test}
+use Rattle.rules.specs.Search.{init}
+use Rattle.rules.specs.Build.{Step, went, refused, and-then, in-pool, from-links, graph-of, Contracting, shortcut, add, pair, pairs-of, handle-shortcuts, contract-node, Level, Building, rank-step, rank-steps, contraction}
+use Rattle.rules.proofs.Pairs.{sought, dropped, witness, unwitnessed, there, too-large, new, pair-goes}
 use Rattle.rules.proofs.Ranges.{distinct-decides}
 use Rattle.rules.proofs.Ranks.{rank-stepped, with-level}
 use Rattle.rules.specs.Accepted.{AcceptedBuild}
@@ -46,22 +45,23 @@ module _ (p q limit v : ℕ) (P : List Arc → Type 0) (in-p : (g : List Arc) �
   adding xs bs more a b g ma mb off small _ x = more a b g ma mb off small x
 
   pair-same : (a b : Arc) (c : Contracting) → More (a ∷ []) (b ∷ []) → P (c .graph) → pair p limit v a b c ≡ pair q limit v a b c
-  unfolding pair ask unless-witness within-sum unless-kept add shortcut
+  unfolding add shortcut
   pair-same a b c more x =
-      on-test (eqb (a .tail) (b .head))
-      (λ t. rw (t, pair))
-      (λ t.
-      let f = find-max-weight (c .graph) v limit (b .head) (a .weight + b .weight) (c .search) in
-      on-test (leb (f .weight) (a .weight + b .weight))
-      (λ w. rw (t, w, pair, unless-witness))
-      (λ w.
-      on-test (ltb maxWeight (a .weight + b .weight))
-      (λ u. rw (t, w, u, pair, unless-witness, within-sum))
-      (λ u.
-      rw (t, w, u, pair, unless-witness, within-sum)
-      (ap (λ m. and-then m (λ g. went (record { graph = g; search = f .search })))
-      (pool-same (addOrReduce (shortcut q limit v a b) (c .graph))
-      (more a b (c .graph) (List·Memᴰ·head refl) (List·Memᴰ·head refl) (eqb-false (a .tail) (b .head) t) (ltb-false maxWeight (a .weight + b .weight) u) x))))))
+      elim (pair-goes limit v a b c) [
+        | dropped _ is ↦ is p ∙ sym (is q)
+        | witness _ _ is ↦ is p ∙ sym (is q)
+        | unwitnessed differ _ u ↦
+            elim u [
+              | there _ _ is ↦ is p ∙ sym (is q)
+              | too-large _ _ is ↦ is p ∙ sym (is q)
+              | new small is ↦
+                  is p ∙
+                  ap (λ m. and-then m (λ g. went (record { graph = g; search = sought limit v a b c .search })))
+                  (pool-same (addOrReduce (shortcut q limit v a b) (c .graph))
+                  (more a b (c .graph) (List·Memᴰ·head refl) (List·Memᴰ·head refl) differ small x)) ∙
+                  sym (is q)
+            ]
+      ]
 
   pairs-same : (a : Arc) (bs : List Arc) (c : Contracting) → More (a ∷ []) bs → P (c .graph) → pairs-of p limit v a bs c ≡ pairs-of q limit v a bs c
   unfolding pairs-of

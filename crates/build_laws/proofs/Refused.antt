@@ -1,23 +1,21 @@
 -- With which numbers a contraction can end: one traversal of its steps, over what the numbers are to pass.
 use mathlib.Core.Path.{_≡_, refl, ap}
 use mathlib.Core.List.{List, [], _∷_, List·Memᴰ·head, List·Memᴰ·tail, List·Memᴰ·eq-of-singleton, Memᴰ·cast}
-use Prim.Native.Nat.{ℕ, suc, _+_, _≤_}
+use Prim.Native.Nat.{ℕ, suc, _≤_}
 use native.Mathlib.Omega.{arith}
-use lib.Dec.{eqb, ltb, leb}
 use lib.ListN.{length}
-use borrow.Author.Tests.{eqb-false, ltb-false}
 use Rattle.rules.proofs.Ranges.{Differ, distinct-decides}
-use Rattle.rules.specs.Numbers.{maxWeight, maxLinkWeight}
+use Rattle.rules.specs.Numbers.{maxLinkWeight}
 use Rattle.rules.specs.Columns.{Link, linkList, forward, backward, room}
 use Rattle.rules.specs.Refusals.{BuildCall, build-refusal}
-use Rattle.rules.specs.Graph.{Arc, outs, ins, kept}
-use Rattle.rules.specs.Search.{init, find-max-weight}
-use Rattle.rules.specs.Build.{went, in-pool, from-links, Contracting, shortcut, add, unless-kept, within-sum, unless-witness, ask, pair, pairs-of, handle-shortcuts, contract-node, Level, in-tables, Building, rank-step, rank-steps, contraction, finish-contraction, build}
+use Rattle.rules.specs.Graph.{Arc, outs, ins}
+use Rattle.rules.specs.Search.{init}
+use Rattle.rules.specs.Build.{went, in-pool, from-links, Contracting, shortcut, add, pair, pairs-of, handle-shortcuts, contract-node, Level, in-tables, Building, rank-step, rank-steps, contraction, finish-contraction, build}
 use Rattle.rules.specs.Lists.{In}
-use Rattle.rules.proofs.Cases.{on-test}
+use Rattle.rules.proofs.Pairs.{dropped, witness, unwitnessed, there, too-large, new, pair-goes}
 use Rattle.rules.proofs.Accepted.{accepted-build}
 use Rattle.rules.proofs.Ranks.{Stepped, rank-stepped, with-level}
-use Rattle.rules.proofs.Numbers.{Only, went-only, refused-only, then-only, either-only}
+use Rattle.rules.proofs.Numbers.{Only, went-only, refused-only, then-only}
 use Rattle.rules.proofs.Outcomes.{early, late, whole, ended}
 use Rattle.rules.specs.Accepted.{AcceptedBuild}
 use Rattle.walks.specs.Promise.{Promise}
@@ -49,26 +47,23 @@ module _ (P : ℕ → Type 0) where
           adds (c .order) ls (c .pool) (c .limit) v r at levels g gok a b k (subx a ma) (subb b mb) off low x
 
       pair-only : (a b : Arc) → In a (ins g v) → In b (outs g v) → (k : Contracting) → Mid (k .graph) → Only P (pair (c .pool) (c .limit) v a b k)
-      unfolding pair ask unless-witness within-sum unless-kept add shortcut
+      unfolding add shortcut
       pair-only a b ma mb k mid =
-          on-test (eqb (a .tail) (b .head))
-          (λ t. rw (t, pair) (went-only P k))
-          (λ t.
-          rw (t, pair)
-          (either-only P (leb (find-max-weight (k .graph) v (c .limit) (b .head) (a .weight + b .weight) (k .search) .weight) (a .weight + b .weight))
-          (went-only P _)
-          (on-test (ltb maxWeight (a .weight + b .weight))
-          (λ u.
-          rw (u, within-sum)
-          (either-only P (kept (shortcut (c .pool) (c .limit) v a b) (k .graph)) (went-only P _) (refused-only P 12 twelve)))
-          (λ u.
-          rw (u, within-sum)
-          (then-only P _ _
-          (pool-only (with-level levels v g) r (suc r) _
-          (adds (c .order) ls (c .pool) (c .limit) v r at levels g gok a b (k .graph) ma mb (eqb-false (a .tail) (b .head) t)
-          (ltb-false maxWeight (a .weight + b .weight) u)
-          mid))
-          (λ m _. went-only P _))))))
+          elim (pair-goes (c .limit) v a b k) [
+            | dropped _ is ↦ rw (is (c .pool)) (went-only P _)
+            | witness _ _ is ↦ rw (is (c .pool)) (went-only P _)
+            | unwitnessed differs _ u ↦
+                elim u [
+                  | there _ _ is ↦ rw (is (c .pool)) (went-only P _)
+                  | too-large _ _ is ↦ rw (is (c .pool)) (refused-only P 12 twelve)
+                  | new light is ↦
+                      rw (is (c .pool))
+                      (then-only P _ _
+                      (pool-only (with-level levels v g) r (suc r) _
+                      (adds (c .order) ls (c .pool) (c .limit) v r at levels g gok a b (k .graph) ma mb differs light mid))
+                      (λ m _. went-only P _))
+                ]
+          ]
 
       pairs-of-only : (a : Arc) (bs : List Arc) → In a (ins g v) → ((b : Arc) → In b bs → In b (outs g v)) → (k : Contracting) → Mid (k .graph) →
           Only P (pairs-of (c .pool) (c .limit) v a bs k)

@@ -9,6 +9,7 @@ pub mod Positions
 pub mod Pigeonhole
 pub mod Prefixes
 pub mod Arcs
+pub mod Pairs
 pub mod Heaps
 pub mod Rows
 pub mod Steps

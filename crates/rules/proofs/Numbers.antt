@@ -1,21 +1,21 @@
 -- With which numbers a build's steps can end.
-use mathlib.Core.Path.{_≡_, refl, sym, ap}
+use mathlib.Core.Path.{_≡_, refl, sym, _∙_, ap}
 use mathlib.Core.Logic.{_↔_, _⊎_}
 use mathlib.Core.Bool.{Bool, true, false, _&&_}
 use mathlib.Core.List.{List, [], _∷_, _++_}
 use Prim.Native.Nat.{ℕ, _+_, _≤_, _<_}
 use native.Mathlib.Omega.{arith}
-use lib.Dec.{eqb, ltb, leb}
+use lib.Dec.{leb}
 use lib.ListN.{length}
-use borrow.Author.Tests.{eqb-false, ne-eqb, leb-true, leb-false, lt-leb, ltb-true, lt-ltb}
-use Rattle.rules.specs.Numbers.{maxWeight}
+use borrow.Author.Tests.{leb-true, leb-false, lt-leb}
 use Rattle.rules.specs.Columns.{forward, backward}
 use Rattle.rules.specs.Refusals.{Row, first-met, BuildCall, graph-rows, order-rows, build-refusal, QueryCall, check-rows, end-rows, query-refusal}
-use Rattle.rules.specs.Graph.{Arc, outs, ins, kept}
-use Rattle.rules.specs.Search.{Search, init, Found, find-max-weight}
-use Rattle.rules.specs.Build.{Step, went, refused, and-then, in-pool, from-links, Contracting, add, unless-kept, within-sum, unless-witness, ask, shortcut, pair, pairs-of, handle-shortcuts, contract-node, Level, raws, in-tables, Building, rank-step, rank-steps, contraction}
+use Rattle.rules.specs.Graph.{Arc, outs, ins}
+use Rattle.rules.specs.Search.{Search, init}
+use Rattle.rules.specs.Build.{Step, went, refused, and-then, in-pool, from-links, Contracting, add, pair, pairs-of, handle-shortcuts, contract-node, Level, raws, in-tables, Building, rank-step, rank-steps, contraction}
 use Rattle.rules.specs.FirstDemand.{SumExceeded}
 use Rattle.rules.proofs.Arcs.{kept-in, in-kept}
+use Rattle.rules.proofs.Pairs.{short, dropped, witness, unwitnessed, there, too-large, new, pair-goes}
 use Rattle.rules.proofs.Cases.{on-test, not-both}
 use Rattle.rules.proofs.Steps.{refused-not-went}
 use Rattle.rules.proofs.Refutes.{not-within, and-refutes}
@@ -96,14 +96,17 @@ module _ (P : ℕ → Type 0) where
   module _ (ten : P 10) (eleven : P 11) (twelve : P 12) where
     module _ (pool limit v : ℕ) where
       pair-leaf : (a b : Arc) (c : Contracting) → Only (pair pool limit v a b c)
-      unfolding pair ask unless-witness within-sum unless-kept shortcut
       pair-leaf a b c =
-          let found = find-max-weight (c .graph) v limit (b .head) (a .weight + b .weight) (c .search) in
-          either-only (eqb (a .tail) (b .head)) (went-only c)
-          (either-only (leb (found .weight) (a .weight + b .weight)) (went-only _)
-          (either-only (ltb maxWeight (a .weight + b .weight))
-          (either-only (kept (shortcut pool limit v a b) (c .graph)) (went-only _) (refused-only 12 twelve))
-          (add-leaf ten pool limit v (shortcut pool limit v a b) (c .graph) (found .search))))
+          elim (pair-goes limit v a b c) [
+            | dropped _ is ↦ rw (is pool) (went-only _)
+            | witness _ _ is ↦ rw (is pool) (went-only _)
+            | unwitnessed _ _ u ↦
+                elim u [
+                  | there _ _ is ↦ rw (is pool) (went-only _)
+                  | too-large _ _ is ↦ rw (is pool) (refused-only 12 twelve)
+                  | new _ is ↦ rw (is pool) (add-leaf ten pool limit v _ _ _)
+                ]
+          ]
 
       pairs-leaf : (a : Arc) (bs : List Arc) (c : Contracting) → Only (pairs-of pool limit v a bs c)
       unfolding pairs-of
@@ -158,60 +161,35 @@ table-exceeded fwd bwd ls =
     )
 
 -- 12 comes where no test before it turned the pair away.
-module _ (pool limit v : ℕ) (a b : Arc) (k : Contracting) where
-  abbrev sum : ℕ
-  sum = a .weight + b .weight
-
-  abbrev found : Found
-  found = find-max-weight (k .graph) v limit (b .head) sum (k .search)
-
-  kept-test : Bool
-  kept-test = kept (shortcut pool limit v a b) (k .graph)
-
-  pub sum-exceeded : (pair pool limit v a b k ≡ refused 12) ↔ SumExceeded limit v a b k
-  unfolding pair ask unless-witness within-sum unless-kept shortcut kept-test
-  sum-exceeded = (
-    λ e.
-        on-test (eqb (a .tail) (b .head)) (λ t. absurd (went-not-refused (rw (t, pair) at e)))
-        (λ t.
-        on-test (leb (found .weight) sum) (λ w. absurd (went-not-refused (rw (t, pair, w, unless-witness) at e)))
-        (λ w.
-        on-test (ltb maxWeight sum)
-        (λ u.
-        on-test kept-test (λ y. absurd (went-not-refused (rw (t, pair, w, unless-witness, u, within-sum, y, unless-kept) at e)))
-        (λ y.
-        record {
-          ends-differ = eqb-false (a .tail) (b .head) t;
-          above = ltb-true maxWeight sum u;
-          no-witness = leb-false (found .weight) sum w;
-          no-arc =
-              λ x m p q.
-              on-test (leb (x .weight) sum)
-              (λ z. absurd (not-both kept-test (in-kept (shortcut pool limit v a b) (k .graph) x m p q (leb-true (x .weight) sum z)) y))
-              (leb-false (x .weight) sum);
-        }))
-        (λ u.
-        absurd
-        (omega (
-          arith,
-          add-leaf (λ r. r ≡ 10) refl pool limit v (shortcut pool limit v a b) (k .graph) (found .search) 12 (rw (t, pair, w, unless-witness, u, within-sum) at e),
-        ))))),
-    λ x.
-        let none : kept-test ≡ false =
-        on-test kept-test
-        (λ y.
-        let z = kept-in (shortcut pool limit v a b) (k .graph) y in
-        absurd (omega (arith, x .no-arc (z .0) (z .1) (z .2) (z .3), z .4)))
-        (λ y. y)
-        in
-        rw (
-          ne-eqb (a .tail) (b .head) (x .ends-differ),
-          pair,
-          lt-leb (found .weight) sum (x .no-witness),
-          unless-witness,
-          lt-ltb maxWeight sum (x .above),
-          within-sum,
-          none,
-          unless-kept,
-        ),
-  )
+pub sum-exceeded : (pool limit v : ℕ) (a b : Arc) (k : Contracting) → (pair pool limit v a b k ≡ refused 12) ↔ SumExceeded limit v a b k
+sum-exceeded pool limit v a b k =
+    elim (pair-goes limit v a b k) [
+      | dropped same is ↦ (λ e. absurd (went-not-refused (sym (is pool) ∙ e)), λ x. absurd (x .ends-differ same))
+      | witness _ found is ↦ (λ e. absurd (went-not-refused (sym (is pool) ∙ e)), λ x. absurd (omega (arith, x .no-witness)))
+      | unwitnessed differ unseen u ↦
+          elim u [
+            | there _ test is ↦
+                let y = kept-in (short limit v a b k) (k .graph) test in (
+                  λ e. absurd (went-not-refused (sym (is pool) ∙ e)),
+                  λ x. absurd (omega (arith, x .no-arc (y .0) (y .1) (y .2) (y .3), y .4)),
+                )
+            | too-large large test is ↦ (
+              λ _.
+                  record {
+                    ends-differ = differ;
+                    above = large;
+                    no-witness = unseen;
+                    no-arc =
+                        λ y m p q.
+                        on-test (leb (y .weight) (a .weight + b .weight))
+                        (λ t. absurd (not-both _ (in-kept (short limit v a b k) (k .graph) y m p q (leb-true (y .weight) (a .weight + b .weight) t)) test))
+                        (leb-false (y .weight) (a .weight + b .weight));
+                  },
+              λ _. is pool,
+            )
+            | new small is ↦ (
+              λ e. absurd (omega (arith, add-leaf (λ r. r ≡ 10) refl pool limit v _ _ _ 12 (sym (is pool) ∙ e))),
+              λ x. absurd (omega (arith, x .above)),
+            )
+          ]
+    ]
