@@ -35,10 +35,10 @@ module _ (pool limit v : ℕ) where
   -- A pair that went: it was dropped; or nothing was put in, for a witness or an arc of no more; or its shortcut was added.
   pub data Put (a b : Arc) (c k : Contracting) : Type 0 where
     no-pair : a .tail ≡ b .head → k ≡ c → Put a b c k
-    kept-out : (a .tail ≡ b .head → ⊥) → (sought limit v a b c .weight ≤ a .weight + b .weight) ⊎ (kept (shortcut pool limit v a b) (c .graph) ≡ true) →
+    kept-out : (a .tail ≡ b .head → ⊥) → (sought limit v a b c .weight ≤ a .weight + b .weight) ⊎ (kept (shortcut v a b) (c .graph) ≡ true) →
         k ≡ searched limit v a b c → Put a b c k
-    added : (a .tail ≡ b .head → ⊥) → a .weight + b .weight ≤ maxWeight → length (addOrReduce (shortcut pool limit v a b) (c .graph)) ≤ pool →
-        k ≡ record { graph = addOrReduce (shortcut pool limit v a b) (c .graph); search = sought limit v a b c .search } → Put a b c k
+    added : (a .tail ≡ b .head → ⊥) → a .weight + b .weight ≤ maxWeight → length (addOrReduce (shortcut v a b) (c .graph)) ≤ pool →
+        k ≡ record { graph = addOrReduce (shortcut v a b) (c .graph); search = sought limit v a b c .search } → Put a b c k
 
   pub pair-went : (a b : Arc) (c k : Contracting) → pair pool limit v a b c ≡ went k → Put a b c k
   unfolding add shortcut
@@ -51,8 +51,8 @@ module _ (pool limit v : ℕ) where
               | there _ test is ↦ kept-out differ (inr test) (sym (went-same (sym (is pool) ∙ e)))
               | too-large _ _ is ↦ absurd (refused-not-went (sym (is pool) ∙ e))
               | new small is ↦
-                  let steps = both-went (in-pool pool (addOrReduce (shortcut pool limit v a b) (c .graph))) _ k (sym (is pool) ∙ e) in
-                  let held = pool-held pool (addOrReduce (shortcut pool limit v a b) (c .graph)) (steps .0) (steps .1) in
+                  let steps = both-went (in-pool pool (addOrReduce (shortcut v a b) (c .graph))) _ k (sym (is pool) ∙ e) in
+                  let held = pool-held pool (addOrReduce (shortcut v a b) (c .graph)) (steps .0) (steps .1) in
                   added differ small (held .1)
                   (sym (went-same (steps .2)) ∙ ap (λ g. record { graph = g; search = sought limit v a b c .search }) (held .0))
             ]
@@ -64,7 +64,7 @@ module _ (pool limit v : ℕ) where
     abbrev pub Adds : List Arc → List Arc → Type 0
     Adds xs bs =
         (a b : Arc) (g : List Arc) → In a xs → In b bs → (a .tail ≡ b .head → ⊥) → a .weight + b .weight ≤ maxWeight →
-        length (addOrReduce (shortcut pool limit v a b) g) ≤ pool → P g → P (addOrReduce (shortcut pool limit v a b) g)
+        length (addOrReduce (shortcut v a b) g) ≤ pool → P g → P (addOrReduce (shortcut v a b) g)
 
     pub pair-keeps : (a b : Arc) (c k : Contracting) → Adds (a ∷ []) (b ∷ []) → pair pool limit v a b c ≡ went k → P (c .graph) → P (k .graph)
     pair-keeps a b c k adds e x =
@@ -112,7 +112,7 @@ module _ (pool limit v : ℕ) where
           | kept-out _ _ same ↦ rw same y
           | added _ _ _ same ↦
               rw same
-              (walked-lighter (avoiding-lighter v (c .graph) _ (lighter-after-add (shortcut pool limit v a b) (c .graph))) y)
+              (walked-lighter (avoiding-lighter v (c .graph) _ (lighter-after-add (shortcut v a b) (c .graph))) y)
         ]
 
     -- a witness, the arc that was there, or the shortcut itself
@@ -131,13 +131,13 @@ module _ (pool limit v : ℕ) where
                     (answer-walked (c .graph) v away limit (b .head) (a .weight + b .weight) (c .search) x (omega arith))
                     found
                 | inr test ↦
-                    let y = kept-in (shortcut pool limit v a b) (c .graph) test in
+                    let y = kept-in (shortcut v a b) (c .graph) test in
                     within-more
                     (edge-within (y .0 .centre, disconnected-in _ v _ (rw (by-ends (y .0) (y .2) (y .3)) (y .1)) away off))
                     (y .4)
               ])
           | added _ _ _ same ↦
-              let f = added-within (shortcut pool limit v a b) (c .graph) in
+              let f = added-within (shortcut v a b) (c .graph) in
               rw same (within-more (edge-within (f .1 .0, disconnected-in _ v _ (f .1 .1) away off)) (f .2))
         ]
 
@@ -162,7 +162,7 @@ module _ (pool limit v : ℕ) where
           lighter =
               lighter-trans
               (pair-keeps (λ g. Lighter (Arcs (c .graph)) (Arcs g)) a b c (s .0)
-              (λ a′ b′ g _ _ _ _ _ l. lighter-from (c .graph) g (shortcut pool limit v a′ b′) l)
+              (λ a′ b′ g _ _ _ _ _ l. lighter-from (c .graph) g (shortcut v a′ b′) l)
               (s .1)
               (lighter-refl (Arcs (c .graph))))
               (rest .lighter);

@@ -139,12 +139,12 @@ module _ (order : List ℕ) (ls : List Link) where
     -- a shortcut keeps it
     pub adds : (a b : Arc) (k : List Arc) → In a (ins g v) → In b (outs g v) → (a .tail ≡ b .head → ⊥) →
         a .weight + b .weight ≤ maxWeight → GraphOk order ls (with-level levels v g) r (suc r) k →
-        GraphOk order ls (with-level levels v g) r (suc r) (addOrReduce (shortcut pool limit v a b) k)
+        GraphOk order ls (with-level levels v g) r (suc r) (addOrReduce (shortcut v a b) k)
     unfolding shortcut
     adds a b k ma mb off small x =
         record {
           loopless = λ y m. elim (added y m) [ inl old ↦ x .loopless y old | inr new ↦ rw new off ];
-          apart = added-apart (shortcut pool limit v a b) k (x .apart);
+          apart = added-apart (shortcut v a b) k (x .apart);
           tails =
               λ y m.
               elim (added y m) [
@@ -185,8 +185,8 @@ module _ (order : List ℕ) (ls : List Link) where
               ];
         }
       where
-        added : (y : Arc) → In y (addOrReduce (shortcut pool limit v a b) k) → In y k ⊎ (y ≡ shortcut pool limit v a b)
-        added y m = in-added (shortcut pool limit v a b) k y m
+        added : (y : Arc) → In y (addOrReduce (shortcut v a b) k) → In y k ⊎ (y ≡ shortcut v a b)
+        added y m = in-added (shortcut v a b) k y m
 
     -- of another node than v the rank is another
     other : (u : ℕ) → Later order r u → (u ≡ v → ⊥) → Later order (suc r) u

@@ -39,7 +39,7 @@ module _ (p q limit v : ℕ) (P : List Arc → Type 0) (in-p : (g : List Arc) �
   abbrev More : List Arc → List Arc → Type 0
   More xs bs =
       (a b : Arc) (g : List Arc) → In a xs → In b bs → (a .tail ≡ b .head → ⊥) → a .weight + b .weight ≤ maxWeight → P g →
-      P (addOrReduce (shortcut q limit v a b) g)
+      P (addOrReduce (shortcut v a b) g)
 
   adding : (xs bs : List Arc) → More xs bs → Adds q limit v P xs bs
   adding xs bs more a b g ma mb off small _ x = more a b g ma mb off small x
@@ -57,7 +57,7 @@ module _ (p q limit v : ℕ) (P : List Arc → Type 0) (in-p : (g : List Arc) �
               | new small is ↦
                   is p ∙
                   ap (λ m. and-then m (λ g. went (record { graph = g; search = sought limit v a b c .search })))
-                  (pool-same (addOrReduce (shortcut q limit v a b) (c .graph))
+                  (pool-same (addOrReduce (shortcut v a b) (c .graph))
                   (more a b (c .graph) (List·Memᴰ·head refl) (List·Memᴰ·head refl) differ small x)) ∙
                   sym (is q)
             ]

@@ -215,7 +215,7 @@ module _ {m₀ : Lent} {pool : ℕ} {x₀ : Work} {v limit n : ℕ} {g : List Ar
   unfolding shortcut
   loopless-handled k e =
       shortcuts-keep pool limit v Loopless (ins g v) (outs g v) g k
-      (λ a b h ma mb off small fits x z m. elim (in-added (shortcut pool limit v a b) h z m) [ inl old ↦ x z old | inr new ↦ rw new off ])
+      (λ a b h ma mb off small fits x z m. elim (in-added (shortcut v a b) h z m) [ inl old ↦ x z old | inr new ↦ rw new off ])
       e (p .loopless)
 
   pub ins-done : place ≡ invalid → Done (lent arcs weights nodes labels heap) pool x₀ n (handle-shortcuts pool limit v (ins g v) (outs g v) g) x

@@ -4,13 +4,14 @@ use mathlib.Core.Bool.{Bool, true, false}
 use mathlib.Core.List.{List}
 use Prim.Native.Nat.{ℕ, _+_, _≤_, _<_}
 use native.Mathlib.Omega.{arith}
-use borrow.Author.Tests.{eq-eqb, ne-eqb, lt-ltb, le-ltb, le-leb, lt-leb}
+use borrow.Author.Tests.{eq-eqb, ne-eqb, le-leb, lt-leb}
 use lib.ListN.{length}
 use Rattle.rules.specs.Numbers.{maxWeight}
 use Rattle.rules.specs.Lists.{In}
-use Rattle.rules.specs.Graph.{Arc, addOrReduce, kept}
+use Rattle.rules.specs.Graph.{Arc, addOrReduce}
 use Rattle.rules.specs.Search.{Search, Found, find-max-weight}
-use Rattle.rules.specs.Build.{Step, went, refused, and-then, in-pool, Contracting, shortcut, add, unless-kept, within-sum, unless-witness, ask, pair}
+use Rattle.rules.specs.Build.{Step, went, refused, and-then, in-pool, Contracting, shortcut, add, within-sum, pair}
+use Rattle.rules.proofs.Pairs.{light-added, heavy-kept-out, heavy-refused, found-for, witness-drops, none-goes-on}
 use Rattle.search_laws.proofs.Graphs.{kept-joins, none-reduced}
 use Rattle.lists.specs.Memory.{Memory, memory, arc}
 use Rattle.graph.specs.declared.preparation_graph.Pool.{Pool}
@@ -37,30 +38,15 @@ module _ (pool limit v tail head sum : ℕ) (c : Contracting) where
 
   module _ (differ : tail ≡ head → ⊥) where
     abbrev sought : Found
-    sought = find-max-weight (c .graph) v limit head sum (c .search)
+    sought = found-for limit v (arc tail head sum v) c
 
     pub with-witness : sought .weight ≤ sum → pair-of pool limit v tail head sum c ≡ went (contracting (c .graph) (sought .search))
-    unfolding pair-of ask unless-witness
-    with-witness h = rw (ne-eqb tail head differ, le-leb (sought .weight) sum h, pair-of, unless-witness)
+    unfolding pair-of
+    with-witness h = rw (ne-eqb tail head differ, pair-of) (witness-drops limit v (arc tail head sum v) c pool h)
 
     pub without-witness : sum < sought .weight → pair-of pool limit v tail head sum c ≡ within-sum pool limit v (arc tail head sum v) (c .graph) (sought .search)
-    unfolding pair-of ask unless-witness
-    without-witness h = rw (ne-eqb tail head differ, lt-leb (sought .weight) sum h, pair-of, unless-witness)
-
--- and by what is looked for
-module _ (pool limit v : ℕ) (a : Arc) (g : List Arc) (s : Search) where
-  light-added : a .weight ≤ maxWeight → within-sum pool limit v a g s ≡ add pool limit v a g s
-  unfolding within-sum
-  light-added small = rw (le-ltb maxWeight (a .weight) small, within-sum)
-
-  module _ (large : maxWeight < a .weight) where
-    heavy-kept : kept a g ≡ true → within-sum pool limit v a g s ≡ went (contracting g s)
-    unfolding within-sum unless-kept
-    heavy-kept there = rw (lt-ltb maxWeight (a .weight) large, within-sum, there, unless-kept)
-
-    heavy-refused : kept a g ≡ false → within-sum pool limit v a g s ≡ refused 12
-    unfolding within-sum unless-kept
-    heavy-refused none = rw (lt-ltb maxWeight (a .weight) large, within-sum, none, unless-kept)
+    unfolding pair-of
+    without-witness h = rw (ne-eqb tail head differ, pair-of) (none-goes-on limit v (arc tail head sum v) c pool h)
 
 -- `pair` reads of an in-arc its tail and its weight
 pub pair-is : (pool limit v tail weight : ℕ) (a b : Arc) (c : Contracting) → a .tail ≡ tail → a .weight ≡ weight →
@@ -185,7 +171,7 @@ module _ {m : Lent} {pool : ℕ} {x : Work} {v tail head n : ℕ} {g : List Arc}
           let found = reduces .found ∙ e in
           let same = none-reduced (short sum) g none-heavier found in
           holding (x .state) (reduces .reduced e) (rw same (p .midst .standing .light))
-          (heavy-kept pool limit v (short sum) g s large (kept-joins (short sum) g none-heavier ∙ found) ∙ ap (λ h. went (contracting h s)) (sym same))
+          (heavy-kept-out pool limit v (short sum) g s large (kept-joins (short sum) g none-heavier ∙ found) ∙ ap (λ h. went (contracting h s)) (sym same))
 
       -- or none
       pub no-arc-there : {m′ : Lent} → r ≡ false → Steps x m′ v held (within-sum pool limit v (short sum) g s) (Refused 12)

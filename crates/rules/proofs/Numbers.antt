@@ -12,10 +12,10 @@ use Rattle.rules.specs.Columns.{forward, backward}
 use Rattle.rules.specs.Refusals.{Row, first-met, BuildCall, graph-rows, order-rows, build-refusal, QueryCall, check-rows, end-rows, query-refusal}
 use Rattle.rules.specs.Graph.{Arc, outs, ins}
 use Rattle.rules.specs.Search.{Search, init}
-use Rattle.rules.specs.Build.{Step, went, refused, and-then, in-pool, from-links, Contracting, add, pair, pairs-of, handle-shortcuts, contract-node, Level, raws, in-tables, Building, rank-step, rank-steps, contraction}
+use Rattle.rules.specs.Build.{Step, went, refused, and-then, in-pool, from-links, Contracting, shortcut, add, pair, pairs-of, handle-shortcuts, contract-node, Level, raws, in-tables, Building, rank-step, rank-steps, contraction}
 use Rattle.rules.specs.FirstDemand.{SumExceeded}
 use Rattle.rules.proofs.Arcs.{kept-in, in-kept}
-use Rattle.rules.proofs.Pairs.{short, dropped, witness, unwitnessed, there, too-large, new, pair-goes}
+use Rattle.rules.proofs.Pairs.{dropped, witness, unwitnessed, there, too-large, new, pair-goes}
 use Rattle.rules.proofs.Cases.{on-test, not-both}
 use Rattle.rules.proofs.Steps.{refused-not-went}
 use Rattle.rules.proofs.Refutes.{not-within, and-refutes}
@@ -162,6 +162,7 @@ table-exceeded fwd bwd ls =
 
 -- 12 comes where no test before it turned the pair away.
 pub sum-exceeded : (pool limit v : ℕ) (a b : Arc) (k : Contracting) → (pair pool limit v a b k ≡ refused 12) ↔ SumExceeded limit v a b k
+unfolding shortcut
 sum-exceeded pool limit v a b k =
     elim (pair-goes limit v a b k) [
       | dropped same is ↦ (λ e. absurd (went-not-refused (sym (is pool) ∙ e)), λ x. absurd (x .ends-differ same))
@@ -169,7 +170,7 @@ sum-exceeded pool limit v a b k =
       | unwitnessed differ unseen u ↦
           elim u [
             | there _ test is ↦
-                let y = kept-in (short limit v a b k) (k .graph) test in (
+                let y = kept-in (shortcut v a b) (k .graph) test in (
                   λ e. absurd (went-not-refused (sym (is pool) ∙ e)),
                   λ x. absurd (omega (arith, x .no-arc (y .0) (y .1) (y .2) (y .3), y .4)),
                 )
@@ -182,7 +183,7 @@ sum-exceeded pool limit v a b k =
                     no-arc =
                         λ y m p q.
                         on-test (leb (y .weight) (a .weight + b .weight))
-                        (λ t. absurd (not-both _ (in-kept (short limit v a b k) (k .graph) y m p q (leb-true (y .weight) (a .weight + b .weight) t)) test))
+                        (λ t. absurd (not-both _ (in-kept (shortcut v a b) (k .graph) y m p q (leb-true (y .weight) (a .weight + b .weight) t)) test))
                         (leb-false (y .weight) (a .weight + b .weight));
                   },
               λ _. is pool,

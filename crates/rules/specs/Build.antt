@@ -43,10 +43,11 @@ pub record Contracting : Type 0 where
   pub graph : List Arc
   pub search : Search
 
-module _ (pool limit v : ℕ) where
-  unfoldable pub shortcut : Arc → Arc → Arc
-  shortcut a b = record { tail = a .tail; head = b .head; weight = a .weight + b .weight; centre = v }
+-- the arc of a pair, of "the sum and centre v"
+unfoldable pub shortcut : ℕ → Arc → Arc → Arc
+shortcut v a b = record { tail = a .tail; head = b .head; weight = a .weight + b .weight; centre = v }
 
+module _ (pool limit v : ℕ) where
   -- "an arc a to b that weighs no more is kept; .. (refusal 10 first)"
   unfoldable pub add : Arc → List Arc → Search → Step Contracting
   add s g found = and-then (in-pool pool (addOrReduce s g)) (λ g′. went (record { graph = g′; search = found }))
@@ -73,7 +74,7 @@ module _ (pool limit v : ℕ) where
 
   -- "if a = b, drop the pair"
   unfoldable pub pair : Arc → Arc → Contracting → Step Contracting
-  pair a b c = elim (eqb (a .tail) (b .head)) [ true ↦ went c | false ↦ ask (shortcut a b) c ]
+  pair a b c = elim (eqb (a .tail) (b .head)) [ true ↦ went c | false ↦ ask (shortcut v a b) c ]
 
   -- one in-arc with each out-arc
   unfoldable pub pairs-of : Arc → List Arc → Contracting → Step Contracting

@@ -35,7 +35,7 @@ pub record World : Type 0 where
 abbrev pub world : ℕ → ℕ → Pool → List Arc → World
 world n pool state g = record { n = n; pool = pool; state = state; graph = g }
 
--- the slices hold it, and no arc is heavier than an arc may be
+-- the slices hold it, and no arc weighs above 2^40
 pub record Standing (w : World) (arcs weights nodes : List ℕ) : Type 0 where
   pub stands : Stands (w .n) (w .pool) (memory arcs nodes) weights (w .state) (w .graph)
   pub light : (a : Arc) → In a (w .graph) → a .weight ≤ maxWeight
