@@ -1,7 +1,7 @@
 -- The tables of a build: what each place holds, and that the table rules hold.
 use mathlib.Core.Path.{_≡_, refl, sym, _∙_, ap, ap₂, subst}
 use mathlib.Core.Logic.{inl, inr}
-use mathlib.Core.Bool.{Bool, _&&_}
+use mathlib.Core.Bool.{Bool, true, _&&_}
 use mathlib.Core.List.{List, [], map, append-nil, Memᴰ·cast}
 use Prim.Native.Nat.{ℕ, suc, _+_, _-_, _≤_, _<_, zero-le}
 use native.Mathlib.Omega.{arith}
@@ -10,11 +10,11 @@ use lib.Dec.{eqb}
 use lib.ListN.{length, getD, length-map}
 use borrow.Author.Tests.{eqb-true, eq-eqb, ne-eqb}
 use Rattle.rules.specs.Numbers.{maxLinkWeight, invalid, noWeight}
-use Rattle.rules.specs.Lists.{In, position, over, range}
+use Rattle.rules.specs.Lists.{In, distinct, position, over, range}
 use Rattle.rules.specs.Columns.{Link, linkList, Table, Entry, Hierarchy, Side, forward, backward, table, entry, rank, begin, room, EquallyLong}
-use Rattle.rules.specs.TableRules.{tail-of, head-of, used, Opens, EntryRules, SideRules, TableRules}
+use Rattle.rules.specs.TableRules.{tail-of, head-of, used, NeighboursDiffer, Opens, EntryRules, SideRules, TableRules}
 use Rattle.rules.specs.Refusals.{BuildCall}
-use Rattle.rules.specs.Graph.{Arc}
+use Rattle.rules.specs.Graph.{Arc, Apart}
 use Rattle.rules.specs.Build.{Level, Raw, arcs-of, neighbour-of, raw, level-raws, raws, Building, place, open-entry, finish, running-sums, starts-of, laid, finished, ranks-of, finish-contraction}
 use Rattle.rules.proofs.Decides.{and-both, both-and}
 use Rattle.rules.proofs.Ranges.{Differ, distinct-decides}
@@ -26,6 +26,7 @@ use Rattle.rules.proofs.Ranks.{level-size, same-sizes}
 use Rattle.rules.specs.Accepted.{AcceptedBuild}
 use Rattle.build_laws.specs.Runs.{rank-of, Opened, LevelOk, own-end}
 use Rattle.build_laws.proofs.Levels.{apart-same}
+use Rattle.build_laws.proofs.Room.{codes-distinct}
 use Rattle.build_laws.proofs.Starts.{Contracted, ranked}
 
 -- nothing, where a list is asked beyond its end
@@ -62,6 +63,11 @@ pub ends-by-side : (s : Side) (x y : Arc) → own-end s x ≡ own-end s y → ne
 unfolding own-end neighbour-of
 ends-by-side forward x y p q = (p, q)
 ends-by-side backward x y p q = (q, p)
+
+-- arcs of one end in common have no neighbour twice
+pub neighbours-distinct : (s : Side) (v : ℕ) (xs : List Arc) → Apart xs → ((x : Arc) → In x xs → own-end s x ≡ v) → distinct (map (neighbour-of s) xs) ≡ true
+neighbours-distinct s v xs a own =
+    codes-distinct (neighbour-of s) xs a (λ x y mx my same. ends-by-side s x y (own x mx ∙ sym (own y my)) same)
 
 -- what rule 5 leaves as it was
 pub record Kept (r : Raw) (e : Entry) : Type 0 where
@@ -371,23 +377,58 @@ module _ (c : BuildCall) (ok : AcceptedBuild c) (small : (w : ℕ) → In w (c .
         flat-length (level-raws s) L,
       )
 
+  -- the i-th entry of a rank is the i-th arc of its level
+  entry-at : (s : Side) (r i : ℕ) → r < n → i < length (arcs-of s (getD L r no-level)) →
+      entry (table h s) (starts-at s r + i) ≡ opened s (raw s (getD L r no-level .node) (getD (arcs-of s (getD L r no-level)) i no-arc))
+  entry-at s r i hr k = entry-is s _ (before-end s (suc r) hr (omega (arith, starts-next s r hr))) ∙ ap (opened s) (raw-at s r i hr k)
+
   pub within-rank : (s : Side) (r e : ℕ) → r < n → starts-at s r ≤ e → e < starts-at s (suc r) → At s r e
   within-rank s r e hr low high =
       let l = getD L r no-level in
       let at = level-at r hr in
       let i : ℕ = e - starts-at s r in
       let k : i < length (arcs-of s l) = omega (arith, starts-next s r hr) in
-      let here : starts-at s r + i ≡ e = add-sub-of-le low in
       record {
         level = l;
         written = at .1;
         node-rank = ap (λ v. rank-of (c .order) v) (at .0) ∙ rank-at r hr;
         arc = getD (arcs-of s l) i no-arc;
         arc-in = getD-in (arcs-of s l) i no-arc k;
-        is =
-            entry-is s e (before-end s (suc r) hr high) ∙
-            ap (opened s) (ap (λ k. getD (raws s L) k no-raw) (sym here) ∙ raw-at s r i hr k);
+        is = ap (entry (table h s)) (sym (add-sub-of-le low)) ∙ entry-at s r i hr k;
       }
+
+  -- A level's arcs have no neighbour twice, so the entries of its rank have none.
+  module _ (s : Side) (r : ℕ) (hr : r < n) where
+    abbrev heads : List ℕ
+    heads = map (neighbour-of s) (arcs-of s (getD L r no-level))
+
+    heads-differ : Differ heads 0
+    heads-differ =
+        let level = level-is (getD L r no-level) (level-at r hr .1) in
+        distinct-decides heads 0 .0 (neighbours-distinct s _ _ (level .apart s) (level .own s))
+
+    -- the neighbour at a place of the rank, counted from its start
+    neighbour-at : (e : ℕ) → begin (table h s) r ≤ e → e < begin (table h s) (suc r) →
+        (e - starts-at s r < length heads) × (entry (table h s) e .neighbour ≡ getD heads (e - starts-at s r) 0)
+    unfolding raw
+    neighbour-at e low high =
+        let arcs = arcs-of s (getD L r no-level) in
+        let from : starts-at s r ≤ e = omega (arith, begin-is s r (omega arith)) in
+        let k : e - starts-at s r < length arcs = omega (arith, begin-is s (suc r) hr, starts-next s r hr) in (
+          omega (arith, length-map arcs (neighbour-of s)),
+          ap (λ d. entry (table h s) d .neighbour) (sym (add-sub-of-le from)) ∙ ap (λ x. x .neighbour) (entry-at s r _ hr k) ∙
+              finish-keeps (raws forward L) (raws backward L) s _ .neighbour ∙ sym (map-at (neighbour-of s) arcs _ no-arc 0 k),
+        )
+
+    rank-differs : NeighboursDiffer (table h s) (begin (table h s) r) (begin (table h s) (suc r))
+    rank-differs d e dl dh el eh same =
+        let x = neighbour-at d dl dh in
+        let y = neighbour-at e el eh in
+        omega (
+          arith,
+          heads-differ (d - starts-at s r) (e - starts-at s r) (x .0) (y .0) (sym (x .1) ∙ same ∙ y .1),
+          begin-is s r (omega arith),
+        )
 
   starts-length : (s : Side) → length (starts-of s L) ≡ suc n
   unfolding starts-of
@@ -448,4 +489,5 @@ module _ (c : BuildCall) (ok : AcceptedBuild c) (small : (w : ℕ) → In w (c .
             λ u v hu hv same.
             same-position (c .order) u v (sym (rank-is u hu) ∙ same ∙ rank-is v hv) (ranked c ok small u hu);
         side-rules = side-is;
+        neighbours-differ = rank-differs;
       }

@@ -2,18 +2,17 @@
 use mathlib.Core.Path.{_≡_, sym, _∙_, ap}
 use mathlib.Core.Logic.{inl, inr}
 use mathlib.Core.Bool.{true, false, true≢false}
-use mathlib.Core.List.{List, map}
+use mathlib.Core.List.{map}
 use Prim.Native.Nat.{ℕ, suc, _*_, _≤_, _<_}
 use native.Mathlib.Omega.{arith}
 use native.Mathlib.Nat.{mul-le-mul, le-trans}
 use lib.ListN.{length, length-map}
 use borrow.Author.Tests.{ne-eqb}
 use Rattle.rules.specs.Numbers.{maxLinkWeight, invalid}
-use Rattle.rules.specs.Lists.{In, distinct, flat-map}
+use Rattle.rules.specs.Lists.{In, flat-map}
 use Rattle.rules.specs.Columns.{linkList, Entry, Hierarchy, Side, forward, backward, table, entry, rank, begin, places}
 use Rattle.rules.specs.TableRules.{tail-of, head-of, used}
 use Rattle.rules.specs.Refusals.{BuildCall}
-use Rattle.rules.specs.Graph.{Arc, Apart}
 use Rattle.rules.specs.Build.{Level, arcs-of, neighbour-of, raw, level-raws, raws, Building, place, finish-contraction}
 use Rattle.rules.specs.Unpack.{is-shortcut}
 use Rattle.rules.proofs.Members.{in-map}
@@ -24,16 +23,10 @@ use Rattle.rules.specs.Accepted.{AcceptedBuild}
 use Rattle.walks.specs.Walks.{Linked}
 use Rattle.walks.specs.Promise.{Entries, Promise}
 use Rattle.walks.proofs.Paths.{Lighter, lighter-path}
-use Rattle.build_laws.specs.Runs.{rank-of, own-end}
+use Rattle.build_laws.specs.Runs.{rank-of}
 use Rattle.build_laws.proofs.Runs.{LevelEdges}
-use Rattle.build_laws.proofs.Room.{codes-distinct}
 use Rattle.build_laws.proofs.Starts.{Contracted}
-use Rattle.build_laws.proofs.BuiltTables.{ends-by-side, tables-rule, links, At, within-rank, used-is, level-is, level-count, ranked-below, node-below, finish-keeps, opens, entry-ends, found-entry, begin-is, rank-is}
-
--- arcs of one end in common have no neighbour twice
-pub neighbours-distinct : (s : Side) (v : ℕ) (xs : List Arc) → Apart xs → ((x : Arc) → In x xs → own-end s x ≡ v) → distinct (map (neighbour-of s) xs) ≡ true
-neighbours-distinct s v xs a own =
-    codes-distinct (neighbour-of s) xs a (λ x y mx my same. ends-by-side s x y (own x mx ∙ sym (own y my)) same)
+use Rattle.build_laws.proofs.BuiltTables.{neighbours-distinct, tables-rule, links, At, within-rank, used-is, level-is, level-count, ranked-below, node-below, finish-keeps, opens, entry-ends, found-entry, begin-is, rank-is}
 
 -- an entry with a number is a shortcut
 numbered : (e : Entry) → (e .in-number ≡ invalid → ⊥) → is-shortcut e ≡ true

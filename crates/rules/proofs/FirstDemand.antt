@@ -12,10 +12,11 @@ use Rattle.rules.specs.Refusals.{BuildCall, QueryCall, build-scratch, qu
 use Rattle.rules.specs.Search.{init}
 use Rattle.rules.specs.Build.{Built, build}
 use Rattle.rules.specs.Query.{Answered, searched, walk, no-route, query}
-use Rattle.rules.specs.FirstDemand.{Lowest, build-table, query-table, FilledAll, BeyondAll, Nothing, Handed, Linear, Modest, value, last-start, FirstDemand}
+use Rattle.rules.specs.FirstDemand.{Lowest, build-table, query-table, FilledAll, BeyondAll, Nothing, Handed, PaperRules, Twins, Linear, Modest, value, last-start, FirstDemand}
 use Rattle.rules.proofs.Cases.{on-test}
 use Rattle.rules.proofs.Decides.{denied}
 use Rattle.rules.proofs.TablesDecided.{tables-decided}
+use Rattle.rules.proofs.Twins.{twins-break, twins-found}
 use Rattle.rules.proofs.Numbers.{query-refusal-least, pool-exceeded, table-exceeded, sum-exceeded}
 use Rattle.rules.proofs.Sentences.{build-lowest, query-lowest, check-decided}
 use Rattle.rules.proofs.Outcomes.{early, late, whole, ended, marked-fills, built-beyond}
@@ -162,6 +163,9 @@ module _ (n : ℕ) (h : Hierarchy) where
     λ rules. check-decided n h 0 .1 (inr (λ broken. broken rules, refl)),
   )
 
+  only-twins : PaperRules n h → (check-refusal n h ≡ 20) ↔ Twins n h
+  only-twins paper = (λ e. twins-found n h paper (check-refused .0 e), λ t. check-refused .1 (twins-break n h t))
+
 -- The scratch formulas.
 abbrev linear : ℕ → ℕ → ℕ → ℕ → Linear
 linear a b c constant = record { a = a; b = b; c = c; constant = constant }
@@ -226,6 +230,7 @@ first-demand =
       sum-exceeded = sum-exceeded;
       check-refused = check-refused;
       check-passes = check-passes;
+      only-twins = only-twins;
       query-numbers = query-numbers;
       query-refused = λ q r low high. Iff·trans (query-number q r low high) (query-lowest q r);
       query-works = query-works;

@@ -15,6 +15,7 @@ pub mod Rows
 pub mod Steps
 pub mod Ascending
 pub mod Refutes
+pub mod Twins
 pub mod Sentences
 pub mod Numbers
 pub mod Accepted

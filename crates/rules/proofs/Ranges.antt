@@ -1,17 +1,19 @@
 -- Tests of all numbers of a range, and of all elements of a list.
-use mathlib.Core.Path.{_≡_, refl, sym, ap}
+use mathlib.Core.Path.{_≡_, refl, sym, ap, _∙_}
 use mathlib.Core.Bool.{Bool, true, false, not}
-use mathlib.Core.List.{List, [], _∷_}
+use mathlib.Core.List.{List, [], _∷_, map}
 use Prim.Native.Nat.{ℕ, zero, suc, _+_, _-_, _≤_, _<_}
 use native.Mathlib.Omega.{arith}
 use native.Mathlib.Decide.{ℕ-discrete}
+use native.Mathlib.Nat.{add-sub-of-le}
 use lib.Dec.{eqb}
-use lib.ListN.{length, getD}
+use lib.ListN.{length, getD, length-map}
 use borrow.Author.Tests.{eq-eqb, not-true}
 use Rattle.rules.specs.Lists.{Decides, all, any, distinct, range, count-from}
 use Rattle.rules.proofs.Cases.{not-both}
 use Rattle.rules.proofs.Members.{in-any, any-same, getD-in, in-getD}
 use Rattle.rules.proofs.Decides.{and-both, both-and}
+use Rattle.rules.proofs.Prefixes.{map-at, range-length, range-at}
 
 module _ (p : ℕ → Bool) where
   counted-each : (a n : ℕ) → all p (count-from a n) ≡ true → (k : ℕ) → a ≤ k → k < a + n → p k ≡ true
@@ -82,3 +84,32 @@ differ-distinct (x ∷ xs) d f =
 
 pub distinct-decides : (xs : List ℕ) (d : ℕ) → Decides (distinct xs) (Differ xs d)
 distinct-decides xs d = (distinct-differ xs d, differ-distinct xs d)
+
+-- Numbers told for each place of a range: no two places are told the same.
+module _ (f : ℕ → ℕ) (a b : ℕ) where
+  pub told-length : length (map f (range a b)) ≡ b - a
+  told-length = length-map (range a b) f ∙ range-length a b
+
+  pub told-at : (i : ℕ) → i < b - a → getD (map f (range a b)) i 0 ≡ f (a + i)
+  told-at i h = map-at f (range a b) i 0 0 (omega (arith, range-length a b)) ∙ ap f (range-at a b i 0 h)
+
+  told-from : (d : ℕ) → a ≤ d → d < b → getD (map f (range a b)) (d - a) 0 ≡ f d
+  told-from d low high = told-at (d - a) (omega arith) ∙ ap f (add-sub-of-le low)
+
+  pub places-differ : Decides (distinct (map f (range a b))) ((d e : ℕ) → a ≤ d → d < b → a ≤ e → e < b → f d ≡ f e → d ≡ e)
+  places-differ = (
+    λ t d e dl dh el eh same.
+        omega (
+          arith,
+          distinct-differ (map f (range a b)) 0 t (d - a) (e - a) (omega (arith, told-length)) (omega (arith, told-length))
+              (told-from d dl dh ∙ same ∙ sym (told-from e el eh)),
+        ),
+    λ h.
+        differ-distinct (map f (range a b)) 0
+        (λ i j hi hj same.
+        omega (
+          arith,
+          h (a + i) (a + j) (omega arith) (omega (arith, told-length)) (omega arith) (omega (arith, told-length))
+              (sym (told-at i (omega (arith, told-length))) ∙ same ∙ told-at j (omega (arith, told-length))),
+        )),
+  )

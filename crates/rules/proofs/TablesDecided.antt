@@ -6,10 +6,10 @@ use lib.ListN.{length, getD, take}
 use lib.Seq.{getD-take, length-take-le}
 use Rattle.rules.specs.Numbers.{maxNodes, maxWeight, invalid}
 use Rattle.rules.specs.Columns.{Table, Entry, Hierarchy, Side, forward, backward, table, entry, rank, begin, places, room, equally-long, EquallyLong}
-use Rattle.rules.specs.TableRules.{tail-of, head-of, used, Fitting, EntryRules, SideRules, TableRules, opens-test, numbers-test, entry-test, shape-test, rank-test, side-test, ranks-test, table-test}
+use Rattle.rules.specs.TableRules.{tail-of, head-of, used, NeighboursDiffer, Fitting, EntryRules, SideRules, TableRules, opens-test, numbers-test, entry-test, shape-test, rank-test, side-test, ranks-test, table-test}
 use Rattle.rules.specs.Lists.{Decides}
 use Rattle.rules.proofs.Decides.{ltb-decides, leb-decides, eqb-decides, and-decides, or-decides, if-decides, decides-as}
-use Rattle.rules.proofs.Ranges.{all-decides, distinct-decides, Differ}
+use Rattle.rules.proofs.Ranges.{all-decides, distinct-decides, Differ, places-differ}
 
 pub columns-decided : (t : Table) → Decides (equally-long t) (EquallyLong t)
 unfolding equally-long
@@ -89,7 +89,11 @@ module _ (n : ℕ) (h : Hierarchy) where
         ),
       )
 
-  pub side-decided : (s : Side) → Decides (side-test n h s) (SideRules n h s)
+  -- no neighbour twice among the entries of any rank
+  abbrev pub EachDiffers : Side → Type 0
+  EachDiffers s = (r : ℕ) → r < n → NeighboursDiffer (table h s) (begin (table h s) r) (begin (table h s) (suc r))
+
+  side-decided : (s : Side) → Decides (side-test n h s) (SideRules n h s × EachDiffers s)
   unfolding side-test shape-test rank-test places
   side-decided s =
       decides-as
@@ -103,25 +107,31 @@ module _ (n : ℕ) (h : Hierarchy) where
       (λ r. leb-decides (begin (table h s) r) (begin (table h s) (suc r)))))
       (leb-decides (used n (table h s)) (room (table h s))))
       (all-decides _
-      (λ r. (e : ℕ) → begin (table h s) r ≤ e → e < begin (table h s) (suc r) → EntryRules n h s r (entry (table h s) e)) 0 n
       (λ r.
-      all-decides _ (λ e. EntryRules n h s r (entry (table h s) e)) (begin (table h s) r) (begin (table h s) (suc r))
-      (λ e. entry-decided s r (entry (table h s) e))))) (
-        λ f.
-            record {
-              columns = f .0 .0 .0 .0 .0;
-              places-for-starts = f .0 .0 .0 .0 .1;
-              begin-at-0 = f .0 .0 .0 .1;
-              never-fall = λ r below. f .0 .0 .1 r zero-le below;
-              end-within = f .0 .1;
-              entry-rules = λ r below. f .1 r zero-le below;
-            },
-        λ x. (
+      ((e : ℕ) → begin (table h s) r ≤ e → e < begin (table h s) (suc r) → EntryRules n h s r (entry (table h s) e)) ×
+      NeighboursDiffer (table h s) (begin (table h s) r) (begin (table h s) (suc r))) 0 n
+      (λ r.
+      and-decides
+      (all-decides _ (λ e. EntryRules n h s r (entry (table h s) e)) (begin (table h s) r) (begin (table h s) (suc r))
+      (λ e. entry-decided s r (entry (table h s) e)))
+      (places-differ (λ e. entry (table h s) e .neighbour) (begin (table h s) r) (begin (table h s) (suc r)))))) (
+        λ f. (
+          record {
+            columns = f .0 .0 .0 .0 .0;
+            places-for-starts = f .0 .0 .0 .0 .1;
+            begin-at-0 = f .0 .0 .0 .1;
+            never-fall = λ r below. f .0 .0 .1 r zero-le below;
+            end-within = f .0 .1;
+            entry-rules = λ r below. f .1 r zero-le below .0;
+          },
+          λ r below. f .1 r zero-le below .1,
+        ),
+        λ (x, apart). (
           (
             (((x .columns, x .places-for-starts), x .begin-at-0), λ r _ below. x .never-fall r below),
             x .end-within,
           ),
-          λ r _ below. x .entry-rules r below,
+          λ r _ below. (x .entry-rules r below, apart r below),
         ),
       )
 
@@ -164,7 +174,8 @@ module _ (n : ℕ) (h : Hierarchy) where
               places-for-ranks = f .1 .0 .0 .0 .0;
               ranks-below = λ v below. f .1 .0 .0 .0 .1 v zero-le below;
               ranks-differ = list-differ (f .1 .0 .0 .0 .0) (f .1 .0 .0 .1);
-              side-rules = elim [ forward ↦ f .1 .0 .1 | backward ↦ f .1 .1 ];
+              side-rules = elim [ forward ↦ f .1 .0 .1 .0 | backward ↦ f .1 .1 .0 ];
+              neighbours-differ = elim [ forward ↦ f .1 .0 .1 .1 | backward ↦ f .1 .1 .1 ];
             },
         λ x. (
           x .nodes,
@@ -174,9 +185,9 @@ module _ (n : ℕ) (h : Hierarchy) where
                 (x .places-for-ranks, λ v _ below. x .ranks-below v below),
                 ranks-differ-list (x .places-for-ranks) (x .ranks-differ),
               ),
-              x .side-rules forward,
+              (x .side-rules forward, x .neighbours-differ forward),
             ),
-            x .side-rules backward,
+            (x .side-rules backward, x .neighbours-differ backward),
           ),
         ),
       )

@@ -4,13 +4,13 @@ use mathlib.Core.Path.{_≡_}
 use mathlib.Core.Logic.{_↔_, _⊎_}
 use mathlib.Core.Bool.{true, false, _||_}
 use mathlib.Core.List.{List, [], _∷_, map}
-use Prim.Native.Nat.{ℕ, _+_, _-_, _*_, _^_, _≤_, _<_}
+use Prim.Native.Nat.{ℕ, suc, _+_, _-_, _*_, _^_, _≤_, _<_}
 use lib.Dec.{eqb}
 use lib.ListN.{length, getD}
 use Rattle.rules.specs.Numbers.{maxNodes, maxLinks, maxEnds, maxLinkWeight, maxWeight, noWeight, invalid, maxInput, programNodes, programLinks}
 use Rattle.rules.specs.Lists.{In, any, distinct}
-use Rattle.rules.specs.Columns.{Links, Table, EquallyLong, Hierarchy, forward, backward, Ends}
-use Rattle.rules.specs.TableRules.{TableRules}
+use Rattle.rules.specs.Columns.{Links, Table, EquallyLong, Hierarchy, Side, forward, backward, table, entry, rank, begin, Ends}
+use Rattle.rules.specs.TableRules.{SideRules, TableRules}
 use Rattle.rules.specs.Refusals.{BuildCall, QueryCall, build-scratch, query-scratch, check-refusal}
 use Rattle.rules.specs.Graph.{Arc}
 use Rattle.rules.specs.Search.{Search, init, find-max-weight}
@@ -157,6 +157,26 @@ pub record Handed (q : QueryCall) (a : Answered) : Type 0 where
   pub front : (i d : ℕ) → i < length (a .walk) → getD (a .path) i d ≡ getD (a .walk) i d
   pub beyond : Beyond (length (a .walk)) (q .path) (a .path)
 
+-- The table rules as document 01 has them: `TableRules` without what request 7 adds.
+pub record PaperRules (n : ℕ) (h : Hierarchy) : Type 0 where
+  pub nodes : n ≤ 1024
+  pub places-for-ranks : n ≤ length (h .ranks)
+  pub ranks-below : (v : ℕ) → v < n → rank h v < n
+  pub ranks-differ : (u v : ℕ) → u < n → v < n → rank h u ≡ rank h v → u ≡ v
+  pub side-rules : (s : Side) → SideRules n h s
+
+-- "a node two entries to one neighbour .. in either table": two places of one table, in the range of one rank
+pub record Twins (n : ℕ) (h : Hierarchy) : Type 0 where
+  pub side : Side
+  pub rank : ℕ
+  pub below : rank < n
+  pub first : ℕ
+  pub second : ℕ
+  pub from : begin (table h side) rank ≤ first
+  pub later : first < second
+  pub to : second < begin (table h side) (suc rank)
+  pub alike : entry (table h side) first .neighbour ≡ entry (table h side) second .neighbour
+
 -- "the sum is above 2^40, no witness was found within the limit, and no arc from a to b that weighs at most the sum is there
 -- already": of the pair of an in-arc a and an out-arc b of v, with the graph and the search as they are when its turn comes
 pub record SumExceeded (limit v : ℕ) (a b : Arc) (k : Contracting) : Type 0 where
@@ -217,6 +237,8 @@ pub record FirstDemand : Type 0 where
   -- The table check: 20 exactly when a table rule is broken, and else 0.
   pub check-refused : (n : ℕ) (h : Hierarchy) → (check-refusal n h ≡ 20) ↔ (TableRules n h → ⊥)
   pub check-passes : (n : ℕ) (h : Hierarchy) → (check-refusal n h ≡ 0) ↔ TableRules n h
+  -- Of tables that document 01's own rules let through it meets those with two entries of one node to one neighbour, and no others.
+  pub only-twins : (n : ℕ) (h : Hierarchy) → PaperRules n h → (check-refusal n h ≡ 20) ↔ Twins n h
   -- The query: 0 or 20 to 25; 20 to 24 exactly when; 25 exactly when the walk of the steps is longer than the buffer; what then.
   pub query-numbers : (q : QueryCall) → (query q .number ≡ 0) ⊎ ((20 ≤ query q .number) × (query q .number ≤ 25))
   pub query-refused : (q : QueryCall) (r : ℕ) → 1 ≤ r → r ≤ 24 → (query q .number ≡ r) ↔ Lowest (query-table q) r

@@ -1,7 +1,8 @@
--- "Table rules (20)". First as a record to be read beside the paper, then as a test that decides it.
+-- "Table rules (20)", and what request 7 adds to them. First as a record to be read beside the paper, then as a test that decides it.
 use mathlib.Core.Path.{_≡_}
 use mathlib.Core.Logic.{_⊎_}
 use mathlib.Core.Bool.{Bool, true, false, _&&_, _||_}
+use mathlib.Core.List.{map}
 use Prim.Native.Nat.{ℕ, suc, _+_, _≤_, _<_}
 use lib.Dec.{eqb, ltb, leb}
 use lib.ListN.{length, take}
@@ -21,6 +22,11 @@ head-of backward e = e .base
 -- how many entries a table has
 unfoldable pub used : ℕ → Table → ℕ
 used n t = begin t n
+
+-- request 7: no two of the entries from a to b lead to one neighbour
+abbrev pub NeighboursDiffer : Table → ℕ → ℕ → Type 0
+NeighboursDiffer t a b =
+    (d e : ℕ) → a ≤ d → d < b → a ≤ e → e < b → entry t d .neighbour ≡ entry t e .neighbour → d ≡ e
 
 module _ (n : ℕ) (h : Hierarchy) where
   -- "both entries of one node of lower rank than the base, with fitting ends and weights summing to its own":
@@ -63,6 +69,7 @@ module _ (n : ℕ) (h : Hierarchy) where
     pub ranks-below : (v : ℕ) → v < n → rank h v < n
     pub ranks-differ : (u v : ℕ) → u < n → v < n → rank h u ≡ rank h v → u ≡ v
     pub side-rules : (s : Side) → SideRules s
+    pub neighbours-differ : (s : Side) (r : ℕ) → r < n → NeighboursDiffer (table h s) (begin (table h s) r) (begin (table h s) (suc r))
 
   -- The test, in the same order.
   unfoldable pub opens-test : Side → Entry → Entry → Entry → Bool
@@ -89,7 +96,9 @@ module _ (n : ℕ) (h : Hierarchy) where
       leb (used n (table h s)) (room (table h s))
 
   unfoldable pub rank-test : Side → ℕ → Bool
-  rank-test s r = all (λ e. entry-test s r (entry (table h s) e)) (places (table h s) r)
+  rank-test s r =
+      all (λ e. entry-test s r (entry (table h s) e)) (places (table h s) r) &&
+      distinct (map (λ e. entry (table h s) e .neighbour) (places (table h s) r))
 
   -- the entries are looked at once their numbers are known to lie within the table
   unfoldable pub side-test : Side → Bool

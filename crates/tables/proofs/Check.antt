@@ -44,7 +44,7 @@ module _ (n : ℕ) (h : Hierarchy) where
       }
 
   pub entries-of : (s : Side) → TableRules n h → EntriesRules n h s
-  entries-of s k = k .side-rules s .entry-rules
+  entries-of s k r below = record { entry-rules = k .side-rules s .entry-rules r below; neighbours-differ = k .neighbours-differ s r below }
 
   -- of the ranks
   pub once-of : n ≤ length (h .ranks) → TableRules n h → each-once n (take n (h .ranks)) ≡ true
@@ -64,6 +64,8 @@ module _ (n : ℕ) (h : Hierarchy) where
         ranks-below = o .0;
         ranks-differ = o .1;
         side-rules = elim [ forward ↦ side forward shape-f rules-f | backward ↦ side backward shape-b rules-b ];
+        neighbours-differ =
+            elim [ forward ↦ λ r below. rules-f r below .neighbours-differ | backward ↦ λ r below. rules-b r below .neighbours-differ ];
       })
     where
       side : (s : Side) → Shape n (table h s) → EntriesRules n h s → SideRules n h s
@@ -74,5 +76,5 @@ module _ (n : ℕ) (h : Hierarchy) where
             begin-at-0 = shape .begin-at-0;
             never-fall = shape .never-fall;
             end-within = shape .end-within;
-            entry-rules = rules;
+            entry-rules = λ r below. rules r below .entry-rules;
           }

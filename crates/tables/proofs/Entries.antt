@@ -7,14 +7,15 @@ use Prim.Native.Nat.{ℕ, zero, suc, _+_, _≤_, _<_}
 use native.Mathlib.Numerals.{add-one}
 use native.Mathlib.Omega.{arith}
 use native.Mathlib.Decide.{decLt}
-use lib.ListN.{length, getD, List·getD-eq-default}
+use lib.ListN.{length, getD, set, List·getD-eq-default}
 use Rattle.rules.specs.Numbers.{maxWeight, invalid, noWeight}
 use Rattle.rules.specs.Lists.{Decides}
 use Rattle.rules.specs.Columns.{Table, Entry, Hierarchy, Side, forward, backward, table, entry, rank, begin, room}
 use Rattle.rules.specs.TableRules.{used, tail-of, head-of, Opens, EntryRules}
 use Rattle.rules.proofs.Decides.{decides-as, denied}
 use Rattle.tables.specs.Lent.{lent, side, either, sided}
-use Rattle.tables.specs.Shapes.{Shape, Shaped, Readable, Opening, numbers, RankRules, RanksRules, EntriesRules}
+use Rattle.tables.specs.Shapes.{Shape, Shaped, Readable, Opening, numbers, RankRules, Earlier, RanksRules, EntriesRules}
+use Rattle.tables.proofs.Marks.{Marked, none-marked, twice, one-more, mark-more}
 
 -- within a column it does not matter what stands beyond it
 pub getD-any : (xs : List ℕ) (i d k : ℕ) → i < length xs → getD xs i d ≡ getD xs i k
@@ -127,6 +128,27 @@ rising f (suc n) up a le =
       | no more ↦ let same : a ≡ suc n = omega arith in rw same (omega arith)
     ]
 
+-- What is known of a rank's entries before e, and of the marks, of which this rank's is k.
+module _ (n : ℕ) (h : Hierarchy) (s : Side) (r k begin : ℕ) where
+  pub record Passed (e : ℕ) (marks : List ℕ) : Type 0 where
+    pub rules : RankRules n h s r begin e
+    pub marked : Marked (λ d. entry (table h s) d .neighbour) k begin e marks
+
+  pub none-passed : (marks : List ℕ) → Earlier k marks → Passed begin marks
+  none-passed marks early =
+      record {
+        rules = record { entry-rules = λ e low high. absurd (omega arith); neighbours-differ = λ d e dl dh el eh same. absurd (omega arith) };
+        marked = none-marked (λ d. entry (table h s) d .neighbour) k begin marks early;
+      }
+
+  -- what holds of all before e holds of all before an end that is no further
+  pub all-passed : (e end : ℕ) (marks : List ℕ) → Passed e marks → end ≤ e → RankRules n h s r begin end
+  all-passed e end marks p done =
+      record {
+        entry-rules = λ d low high. p .rules .entry-rules d low (omega arith);
+        neighbours-differ = λ d c dl dh cl ch same. p .rules .neighbours-differ d c dl (omega arith) cl (omega arith) same;
+      }
+
 module _ (n : ℕ) (ranks : List ℕ) (own other : Table) (shaped : Shaped n ranks own other) (s : Side) where
   abbrev h : Hierarchy
   h = sided s ranks own other
@@ -198,16 +220,44 @@ module _ (n : ℕ) (ranks : List ℕ) (own other : Table) (shaped : Shaped n ran
   module _ (r begin end e : ℕ) {x : Bool} (d : Decides x (EntryRules n h s r (read own e))) (low : begin ≤ e) (high : e < end)
       (within : end ≤ length (own .bases)) where
     pub fails-here : x ≡ false → RankRules n h s r begin end → ⊥
-    fails-here f all = denied d f (rw (at-own e (omega arith)) at (all e low high))
+    fails-here f all = denied d f (rw (at-own e (omega arith)) at (all .entry-rules e low high))
 
-    pub holds-here : x ≡ true → RankRules n h s r begin e → RankRules n h s r begin (e + 1)
-    holds-here t so-far k low′ high′ =
-        elim (decLt k e) [
-          | yes before ↦ so-far k low′ before
-          | no after ↦
-              let same : k ≡ e = omega arith in
-              rw (same, at-own e (omega arith)) (d .0 t)
-        ]
+    module _ (t : x ≡ true) where
+      pub neighbour-inside : getD (own .neighbours) e 0 < 1024
+      neighbour-inside = omega (arith, d .0 t .neighbour-below, shaped .nodes)
+
+      neighbour-is : entry (table h s) e .neighbour ≡ getD (own .neighbours) e 0
+      neighbour-is = ap (λ (y : Entry). y .neighbour) (at-own e (omega arith))
+
+      -- the entry's neighbour has this rank's mark, or gets it
+      module _ (k : ℕ) (marks : List ℕ) (p : Passed n h s r k begin e marks) where
+        pub twin-here : getD marks (getD (own .neighbours) e 0) 0 ≡ k → RankRules n h s r begin end → ⊥
+        twin-here is all =
+            twice (λ d. entry (table h s) d .neighbour) k begin e marks low (p .marked) end high (rw neighbour-is is)
+            (all .neighbours-differ)
+
+        pub holds-here : (getD marks (getD (own .neighbours) e 0) 0 ≡ k → ⊥) → Passed n h s r k begin (e + 1) (set marks (getD (own .neighbours) e 0) k)
+        holds-here other =
+            record {
+              rules =
+                  record {
+                    entry-rules =
+                        λ c low′ high′.
+                        elim (decLt c e) [
+                          | yes before ↦ p .rules .entry-rules c low′ before
+                          | no after ↦
+                              let same : c ≡ e = omega arith in
+                              rw (same, at-own e (omega arith)) (d .0 t)
+                        ];
+                    neighbours-differ =
+                        one-more (λ d. entry (table h s) d .neighbour) k begin e marks low (p .marked)
+                        (λ is. other (rw neighbour-is at is)) (p .rules .neighbours-differ);
+                  };
+              marked =
+                  rw neighbour-is at
+                  (mark-more (λ d. entry (table h s) d .neighbour) k begin e marks low (p .marked)
+                  (rw neighbour-is neighbour-inside));
+            }
 
   -- where the code reads that a rank's entries begin and end
   from-is : (r : ℕ) → begin (table h s) r ≡ getD (own .starts) r 0

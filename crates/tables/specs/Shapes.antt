@@ -4,7 +4,7 @@ use mathlib.Core.Path.{_≡_}
 use Prim.Native.Nat.{ℕ, suc, _+_, _≤_, _<_}
 use lib.ListN.{length, getD}
 use Rattle.rules.specs.Columns.{Table, Entry, Hierarchy, Side, table, entry, begin, room, EquallyLong}
-use Rattle.rules.specs.TableRules.{used, EntryRules}
+use Rattle.rules.specs.TableRules.{used, NeighboursDiffer, EntryRules}
 
 -- what is said of a table's columns and starts
 pub record Shape (n : ℕ) (t : Table) : Type 0 where
@@ -42,9 +42,15 @@ pub record Opening (n : ℕ) (ranks fs fb fm fw bs bb bm bw : List ℕ) (r tail 
 abbrev pub numbers : ℕ → ℕ → ℕ → ℕ → ℕ → Entry
 numbers b m w i o = record { base = b; neighbour = m; weight = w; in-number = i; out-number = o }
 
--- the entries of a stretch keep the rules of rank r
-abbrev pub RankRules : ℕ → Hierarchy → Side → ℕ → ℕ → ℕ → Type 0
-RankRules n h s r a b = (e : ℕ) → a ≤ e → e < b → EntryRules n h s r (entry (table h s) e)
+-- the entries of a stretch keep the rules of rank r, each its own, and no two lead to one neighbour
+pub record RankRules (n : ℕ) (h : Hierarchy) (s : Side) (r a b : ℕ) : Type 0 where
+  pub entry-rules : (e : ℕ) → a ≤ e → e < b → EntryRules n h s r (entry (table h s) e)
+  pub neighbours-differ : NeighboursDiffer (table h s) a b
+
+-- a mark for each node, none as late as this one
+pub record Earlier (mark : ℕ) (marks : List ℕ) : Type 0 where
+  pub long : length marks ≡ 1024
+  pub each : (u : ℕ) → getD marks u 0 < mark
 
 -- the entries of the first ranks, and of all
 abbrev pub RanksRules : ℕ → Hierarchy → Side → ℕ → Type 0

@@ -1,16 +1,17 @@
 // The columns of a hierarchy, as a caller lends them, and whether they keep the table rules (refusal 20).
 //
-// One pass over the used entries; nothing is written, and no number is trusted before it was compared: entries are looked at only
-// once both tables' starts are known to lie within their columns.
+// One pass over the used entries; nothing lent is written, and no number is trusted before it was compared: entries are looked at
+// only once both tables' starts are known to lie within their columns. That no neighbour stands twice among a node's entries (request 7)
+// is seen in the same pass, by a mark for each node in the frame: no scratch, and no entry is looked at again.
 ghost use mathlib.Core.Path.{_≡_};
-ghost use Prim.Native.Nat.{ℕ, suc, _≤_, _<_};
+ghost use Prim.Native.Nat.{ℕ, suc, _+_, _≤_, _<_};
 ghost use lib.ListN.{length, getD};
 ghost use Rattle.rules.specs.Lists.{Decides};
 ghost use Rattle.rules.specs.Columns.{entry};
 ghost use Rattle.rules.specs.TableRules.{EntryRules};
 ghost use Rattle.rules.specs.Refusals.{check-refusal};
 ghost use Rattle.tables.specs.Lent.{columns, lent, side, sided};
-ghost use Rattle.tables.specs.Shapes.{Shape, Shaped, Readable, Opening, numbers, RankRules, EntriesRules};
+ghost use Rattle.tables.specs.Shapes.{Shape, Shaped, Readable, Opening, numbers, RankRules, Earlier, EntriesRules};
 
 // Whether the first n + 1 starts never fall.
 fn never_fall(n: usize, starts: &[u32]) -> bool
@@ -212,7 +213,8 @@ fn passes(
     }
 }
 
-// Whether the entries of rank r, from e to end, keep the rules.
+// Whether the entries of rank r, from begin to end, keep the rules, and no two lead to one neighbour. A node's mark is one more than
+// the last rank that led to it.
 fn rank_passes(
     forward: bool,
     n: usize,
@@ -232,12 +234,15 @@ fn rank_passes(
     r: usize,
     begin: usize,
     end: usize,
+    marks: &mut [u32; 1024],
 ) -> bool
-    requires { ⌜ Shaped n (now ranks) (columns (now s) (now b) (now m) (now w) (now i) (now o)) (columns (now ts) (now tb) (now tm) (now tw) (now ti) (now to)) × (r < n) × (end ≤ length (now b)) ⌝ }
-    ensures { λ x. ⌜ Decides x (RankRules n (sided (side forward) (now (ranks .entry)) (columns (now (s .entry)) (now (b .entry)) (now (m .entry)) (now (w .entry)) (now (i .entry)) (now (o .entry))) (columns (now (ts .entry)) (now (tb .entry)) (now (tm .entry)) (now (tw .entry)) (now (ti .entry)) (now (to .entry)))) (side forward) r begin end) ⌝ }
+    requires { ⌜ Shaped n (now ranks) (columns (now s) (now b) (now m) (now w) (now i) (now o)) (columns (now ts) (now tb) (now tm) (now tw) (now ti) (now to)) × (r < n) × (end ≤ length (now b)) × Earlier (r + 1) (now marks) ⌝ }
+    ensures { λ x. ⌜ Decides x (RankRules n (sided (side forward) (now (ranks .entry)) (columns (now (s .entry)) (now (b .entry)) (now (m .entry)) (now (w .entry)) (now (i .entry)) (now (o .entry))) (columns (now (ts .entry)) (now (tb .entry)) (now (tm .entry)) (now (tw .entry)) (now (ti .entry)) (now (to .entry)))) (side forward) r begin end) × Earlier (r + 1 + 1) (now (marks .exit)) ⌝ }
 {
+    let mark = (r + 1) as u32;
     let mut e = begin;
     while e < end {
+        let neighbour = m[e];
         if !passes(
             forward,
             n,
@@ -256,19 +261,24 @@ fn rank_passes(
             to,
             r,
             b[e],
-            m[e],
+            neighbour,
             w[e],
             i[e],
             o[e],
         ) {
             return false;
         }
+        let u = neighbour as usize;
+        if marks[u] == mark {
+            return false;
+        }
+        marks[u] = mark;
         e += 1;
     }
     true
 }
 
-// Whether the used entries of a table do, rank by rank.
+// Whether the used entries of a table do, rank by rank. No table's marks are another's: an entry each way is a link both ways.
 fn entries_pass(
     forward: bool,
     n: usize,
@@ -289,6 +299,7 @@ fn entries_pass(
     requires { ⌜ Shaped n (now ranks) (columns (now s) (now b) (now m) (now w) (now i) (now o)) (columns (now ts) (now tb) (now tm) (now tw) (now ti) (now to)) ⌝ }
     ensures { λ x. ⌜ Decides x (EntriesRules n (sided (side forward) (now (ranks .entry)) (columns (now (s .entry)) (now (b .entry)) (now (m .entry)) (now (w .entry)) (now (i .entry)) (now (o .entry))) (columns (now (ts .entry)) (now (tb .entry)) (now (tm .entry)) (now (tw .entry)) (now (ti .entry)) (now (to .entry)))) (side forward)) ⌝ }
 {
+    let mut marks = [0u32; 1024];
     let mut r = 0;
     while r < n {
         if !rank_passes(
@@ -310,6 +321,7 @@ fn entries_pass(
             r,
             s[r] as usize,
             s[r + 1] as usize,
+            &mut marks,
         ) {
             return false;
         }

@@ -91,8 +91,17 @@ module _ {n : ℕ} {h k : Hierarchy} (agree : Agree n h k) (rules : TableRules n
         numbers = elim (x .numbers) [ inl plain ↦ inl plain | inr opens ↦ inr (opens-kept s e (x .base-below) opens) ];
       }
 
-  side-rules-kept : (s : Side) → Shape n (table k s) → SideRules n k s
+  -- the entry at a place of a rank is the same in both
+  same : (s : Side) (r : ℕ) → r < n → (e : ℕ) → begin (table k s) r ≤ e → e < begin (table k s) (suc r) →
+      (begin (table h s) r ≤ e) × (e < begin (table h s) (suc r)) × (entry (table k s) e ≡ entry (table h s) e)
   unfolding used
+  same s r below e low high =
+      let from : begin (table h s) r ≤ e = rw (agree .starts s r (omega arith)) at low in
+      let to : e < begin (table h s) (suc r) = rw (agree .starts s (suc r) (omega arith)) at high in
+      let last = rising (begin (table h s)) n (rules .side-rules s .never-fall) (suc r) below in
+      (from, to, agree .entries s e (omega (arith, to, last)))
+
+  side-rules-kept : (s : Side) → Shape n (table k s) → SideRules n k s
   side-rules-kept s shape =
       let old = rules .side-rules s in
       record {
@@ -103,10 +112,8 @@ module _ {n : ℕ} {h k : Hierarchy} (agree : Agree n h k) (rules : TableRules n
         end-within = shape .end-within;
         entry-rules =
             λ r below e low high.
-            let from : begin (table h s) r ≤ e = rw (agree .starts s r (omega arith)) at low in
-            let to : e < begin (table h s) (suc r) = rw (agree .starts s (suc r) (omega arith)) at high in
-            let last = rising (begin (table h s)) n (old .never-fall) (suc r) below in
-            rw (agree .entries s e (omega (arith, to, last))) (entry-rules-kept s r (entry (table h s) e) (old .entry-rules r below e from to));
+            let x = same s r below e low high in
+            rw (x .2) (entry-rules-kept s r (entry (table h s) e) (old .entry-rules r below e (x .0) (x .1)));
       }
 
   pub rules-kept : n ≤ length (k .ranks) → ((s : Side) → Shape n (table k s)) → TableRules n k
@@ -117,4 +124,9 @@ module _ {n : ℕ} {h k : Hierarchy} (agree : Agree n h k) (rules : TableRules n
         ranks-below = λ v below. rw (agree .ranks v below) (rules .ranks-below v below);
         ranks-differ = λ u v hu hv same. rules .ranks-differ u v hu hv (rw (agree .ranks u hu, agree .ranks v hv) at same);
         side-rules = λ s. side-rules-kept s (shapes s);
+        neighbours-differ =
+            λ s r below d e dl dh el eh alike.
+            let x = same s r below d dl dh in
+            let y = same s r below e el eh in
+            rules .neighbours-differ s r below d e (x .0) (x .1) (y .0) (y .1) (rw (x .2, y .2) at alike);
       }

@@ -1,0 +1,77 @@
+-- Of tables that keep document 01's own rules, those with two entries of one node to one neighbour break a table rule, and no others do.
+use mathlib.Core.Path.{_≡_, sym, _∙_}
+use mathlib.Core.Bool.{Bool, true, false}
+use mathlib.Core.List.{map}
+use Prim.Native.Nat.{ℕ, suc, _+_, _-_, _<_, zero-le}
+use native.Mathlib.Omega.{arith}
+use Rattle.rules.specs.Lists.{all, distinct, range}
+use Rattle.rules.specs.Columns.{Hierarchy, Side, forward, backward, table, entry, begin}
+use Rattle.rules.specs.TableRules.{NeighboursDiffer, TableRules}
+use Rattle.rules.specs.FirstDemand.{PaperRules, Twins}
+use Rattle.rules.proofs.Cases.{on-test}
+use Rattle.rules.proofs.Prefixes.{range-length, range-at}
+use Rattle.rules.proofs.TablesDecided.{EachDiffers}
+use Rattle.rules.proofs.Ranges.{all-decides, places-differ, told-length, told-at}
+use Rattle.rules.proofs.Refutes.{Twice, all-refutes, distinct-refutes}
+
+module _ (n : ℕ) (h : Hierarchy) where
+  pub twins-break : Twins n h → TableRules n h → ⊥
+  twins-break t rules =
+      let low = t .from in
+      let high = t .to in
+      let same = rules .neighbours-differ (t .side) (t .rank) (t .below) (t .first) (t .second) low (omega (arith, t .later, high))
+      (omega (arith, low, t .later)) high (t .alike) in
+      omega (arith, t .later)
+
+  module _ (s : Side) where
+    abbrev from : ℕ → ℕ
+    from r = begin (table h s) r
+
+    abbrev neighbour : ℕ → ℕ
+    neighbour e = entry (table h s) e .neighbour
+
+    abbrev apart : ℕ → Bool
+    apart r = distinct (map neighbour (range (from r) (from (suc r))))
+
+    all-apart : all apart (range 0 n) ≡ true → EachDiffers n h s
+    all-apart t r below =
+        all-decides apart (λ r. NeighboursDiffer (table h s) (from r) (from (suc r))) 0 n
+        (λ r. places-differ neighbour (from r) (from (suc r))) .0 t r zero-le below
+
+    at-rank : (r : ℕ) → r < n → Twice (map neighbour (range (from r) (from (suc r)))) → Twins n h
+    at-rank r below (i, j, less, short, alike) =
+        let inside : j < from (suc r) - from r = omega (arith, told-length neighbour (from r) (from (suc r))) in
+        record {
+          side = s;
+          rank = r;
+          below = below;
+          first = from r + i;
+          second = from r + j;
+          from = omega arith;
+          later = omega arith;
+          to = omega arith;
+          alike = sym (told-at neighbour (from r) (from (suc r)) i (omega arith)) ∙ alike ∙ told-at neighbour (from r) (from (suc r)) j inside;
+        }
+
+    found : all apart (range 0 n) ≡ false → Twins n h
+    found f =
+        let w = all-refutes 0 (λ r. Twice (map neighbour (range (from r) (from (suc r))))) apart (range 0 n)
+        (λ r. distinct-refutes (map neighbour (range (from r) (from (suc r))))) .0 f in
+        at-rank _ (omega (arith, w .1, range-length 0 n, range-at 0 n (w .0) 0 (omega (arith, w .1, range-length 0 n)))) (w .2)
+
+  pub twins-found : PaperRules n h → (TableRules n h → ⊥) → Twins n h
+  twins-found paper broken =
+      on-test (all (apart forward) (range 0 n))
+      (λ f. on-test (all (apart backward) (range 0 n)) (λ b. absurd (broken (kept (all-apart forward f) (all-apart backward b)))) (found backward))
+      (found forward)
+    where
+      kept : EachDiffers n h forward → EachDiffers n h backward → TableRules n h
+      kept f b =
+          record {
+            nodes = paper .nodes;
+            places-for-ranks = paper .places-for-ranks;
+            ranks-below = paper .ranks-below;
+            ranks-differ = paper .ranks-differ;
+            side-rules = paper .side-rules;
+            neighbours-differ = elim [ forward ↦ f | backward ↦ b ];
+          }
