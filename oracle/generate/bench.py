@@ -89,6 +89,36 @@ UNBUILT = [
 ]
 
 
+
+def plain(nodes, fwd, bwd, unused=()):
+    """Tables in which node v has rank v, of entries [base, neighbour, weight] that are links; the unused ones stand behind the forward table's."""
+    starts = lambda entries: [sum(base < rank for base, _, _ in entries) for rank in range(nodes + 1)]
+    columns = lambda entries: [list(column) for column in zip(*([*entry, MARK, MARK] for entry in entries))] or [[] for _ in range(5)]
+    return {
+        "nodes": nodes,
+        "ranks": list(range(nodes)),
+        "fwd_starts": starts(fwd),
+        "fwd": columns([*fwd, *unused]),
+        "bwd_starts": starts(bwd),
+        "bwd": columns(bwd),
+    }
+
+
+# One neighbour twice among the entries of a node, and what is none (request 7).
+TWICE = [
+    plain(2, [(0, 1, 1), (0, 1, 1)], []),
+    plain(2, [], [(0, 1, 1), (0, 1, 1)]),
+    plain(2, [(0, 1, 1), (0, 1, 2)], []),
+    plain(3, [(0, 1, 1), (0, 2, 1), (0, 1, 1)], []),
+    plain(3, [(0, 1, 1)], [(1, 2, 1), (1, 2, 2)]),
+]
+ONCE = [
+    plain(2, [(0, 1, 1)], [(0, 1, 1)]),  # one in each table
+    plain(3, [(0, 2, 1), (1, 2, 1)], [(0, 2, 1), (1, 2, 1)]),  # of two nodes
+    plain(2, [(0, 1, 1)], [], unused=[(0, 1, 1)]),  # a place beyond the last start
+]
+
+
 def cases():
     yield from REFUSED
     yield shapes.build(1024, [], range(1024), 100, fwd=0, bwd=0)
@@ -97,6 +127,9 @@ def cases():
         yield from on_tables(shapes.used(answered), ends)
     for tables, ends in UNBUILT:
         yield from on_tables(tables, ends)
+    for tables in TWICE + ONCE:
+        # without sources: 20 comes before 21
+        yield from on_tables(tables, [([], [(1, 0)]), single(0, 1), single(1, 0)])
 
 
 def on_tables(tables, ends):

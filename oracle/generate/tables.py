@@ -1,7 +1,7 @@
-"""Tables for checks and queries: as built, with room to spare, damaged, or made up.
+"""Tables for checks and queries: as built, with room to spare, damaged, made up, or with one neighbour twice.
 
-Made-up tables keep the rules of document 01 though no build made them; there only the steps of the
-query decide, so they show more than built ones.
+Made-up tables keep the table rules though no build made them; there only the steps of the query decide,
+so they show more than built ones.
 """
 
 import copy
@@ -21,9 +21,31 @@ def some_tables(rng, answered):
     if way < 0.75:
         return made_up(rng, answered["nodes"])
     lent = copy.deepcopy(rng.choice((shapes.used(answered), shapes.tables(answered), made_up(rng, answered["nodes"]))))
+    if way < 0.85:
+        twin(rng, lent)
+        return lent
     for _ in range(rng.choice((1, 1, 1, 2))):
         damage(rng, lent)
     return lent
+
+
+def twin(rng, lent):
+    """An entry more, a link of any weight, to a neighbour that its node has an entry to already; starts and numbers move along."""
+    side = rng.choice([side for side in ("fwd", "bwd") if lent[side + "_starts"][lent["nodes"]]] or [None])
+    if side is None:
+        return
+    starts, columns = lent[side + "_starts"], lent[side]
+    of = rng.randrange(starts[lent["nodes"]])
+    rank = max(rank for rank in range(lent["nodes"]) if starts[rank] <= of)
+    at = rng.randint(starts[rank], starts[rank + 1])
+    more = columns[BASE][of], columns[NEIGHBOUR][of], rng.choice((columns[WEIGHT][of], 1, 2)), NO_NODE, NO_NODE
+    for column, number in zip(columns, more):
+        column.insert(at, number)
+    for later in range(rank + 1, lent["nodes"] + 1):
+        starts[later] += 1
+    naming = OUT if side == "fwd" else IN
+    for numbers in (lent["fwd"][naming], lent["bwd"][naming]):
+        numbers[:] = [number + (at <= number < NO_NODE) for number in numbers]
 
 
 def damage(rng, lent):
@@ -50,7 +72,7 @@ def made_up(rng, nodes):
     for rank, base in enumerate(order):
         above = order[rank + 1:]
         for side, columns in sides.items():
-            for neighbour in above if tower else rng.choices(above, k=rng.randint(0, 3)) if above else ():
+            for neighbour in above if tower else rng.sample(above, k=min(len(above), rng.randint(0, 3))):
                 entry = some_entry(rng, sides, side, base, neighbour, tower)
                 for column, number in zip(columns, entry):
                     column.append(number)

@@ -1,4 +1,4 @@
-//! Tables for the proved code: as the crate builds them, damaged, and made up by the rules.
+//! Tables for the proved code: as the crate builds them, damaged, made up by the rules, and with one neighbour twice.
 
 use crate::answer::{crates_build, entry};
 use crate::constants::{NodeId, INVALID_EDGE, MAX_SUM};
@@ -10,12 +10,20 @@ use crate::random::{any_column, any_number, below, random_graph, random_size, sh
 use crate::tables::Tables;
 use std::cmp::Reverse;
 
-pub const KINDS: [&str; 5] = ["built tables", "damaged built tables", "made-up tables", "damaged made-up tables", "tables of any numbers"];
+pub const KINDS: [&str; 7] = [
+    "built tables",
+    "damaged built tables",
+    "made-up tables",
+    "damaged made-up tables",
+    "tables of any numbers",
+    "built tables, a neighbour twice",
+    "made-up tables, a neighbour twice",
+];
 
 /// Some tables, of one of the kinds; with them the graph, where they are what the crate built of it.
 pub fn drawn(numbers: &mut Rng, round: usize) -> (&'static str, Tables, Option<InputGraph>) {
-    let kind = [0, 0, 0, 0, 0, 1, 1, 2, 2, 2, 2, 2, 3, 3, 4][below(numbers, 15)];
-    let graph = (kind < 2).then(|| random_graph(numbers, round));
+    let kind = [0, 0, 0, 0, 0, 1, 1, 2, 2, 2, 2, 2, 3, 3, 4, 5, 6][below(numbers, 17)];
+    let graph = [0, 1, 5].contains(&kind).then(|| random_graph(numbers, round));
     let mut tables = match &graph {
         Some(graph) => built(numbers, graph),
         None if kind == 4 => any_tables(numbers),
@@ -24,7 +32,9 @@ pub fn drawn(numbers: &mut Rng, round: usize) -> (&'static str, Tables, Option<I
             made_up(numbers, nodes)
         }
     };
-    if kind % 2 == 1 {
+    if kind >= 5 {
+        twin(numbers, &mut tables);
+    } else if kind % 2 == 1 {
         for _ in 0..[1, 1, 1, 2, 3][below(numbers, 5)] {
             damage(numbers, &mut tables);
         }
@@ -130,7 +140,7 @@ pub fn complete(numbers: &mut Rng, order: &[NodeId]) -> FastGraph {
     })
 }
 
-/// Several entries between the same two nodes, weights of no shortest way, shortcuts over any entries that fit.
+/// Weights of no shortest way, shortcuts over any entries that fit.
 fn jumble(numbers: &mut Rng, order: &[NodeId]) -> FastGraph {
     let heaviest = [1, 3, 9, MAX_SUM as usize][below(numbers, 4)];
     laid_out(order, |graph, rank, forward| {
@@ -145,6 +155,8 @@ fn jumble(numbers: &mut Rng, order: &[NodeId]) -> FastGraph {
                 entries.push(fitting[below(numbers, fitting.len())]);
             }
         }
+        let mut seen = vec![];
+        entries.retain(|e| !seen.contains(&e.adj_node) && { seen.push(e.adj_node); true });
         entries
     })
 }
@@ -185,6 +197,41 @@ fn shortcuts(graph: &FastGraph, base: NodeId, forward: bool) -> Vec<FastGraphEdg
         }
     }
     found
+}
+
+/// An entry more, to a neighbour that its node has an entry to already, in the same table: of another weight, or as heavy, plain or opened. Starts
+/// and numbers are moved along, so that document 01's own rules still hold. Tables without an entry stay.
+fn twin(numbers: &mut Rng, tables: &mut Tables) {
+    let mut forward = below(numbers, 2) == 0;
+    if (if forward { &tables.fwd_starts } else { &tables.bwd_starts })[tables.nodes] == 0 {
+        forward = !forward;
+    }
+    let (starts, columns) = if forward { (&mut tables.fwd_starts, &mut tables.fwd) } else { (&mut tables.bwd_starts, &mut tables.bwd) };
+    let used = starts[tables.nodes];
+    if used == 0 {
+        return;
+    }
+    let of = below(numbers, used);
+    let rank = (0..tables.nodes).rfind(|&rank| starts[rank] <= of).unwrap_or(0);
+    let at = starts[rank] + below(numbers, starts[rank + 1] - starts[rank] + 1);
+    let mut more = [0, 1, 2, 3, 4].map(|k| columns[k][of]);
+    if below(numbers, 2) == 0 {
+        // plain, and so of any weight
+        let weight = [more[2], more[2] + 1, 1, 1 + below(numbers, 9) as u64][below(numbers, 4)].min(MAX_SUM);
+        more = [more[0], more[1], weight, INVALID_EDGE as u64, INVALID_EDGE as u64];
+    }
+    columns.iter_mut().zip(more).for_each(|(column, number)| column.insert(at, number));
+    starts[rank + 1..=tables.nodes].iter_mut().for_each(|start| *start += 1);
+    // the numbers that name places of this table, in both
+    let column = if forward { 4 } else { 3 };
+    for number in tables.fwd[column].iter_mut().chain(&mut tables.bwd[column]) {
+        if *number >= at as u64 && *number != INVALID_EDGE as u64 {
+            *number += 1;
+        }
+    }
+    if tables.by_the_paper().is_none() || tables.read().is_some() {
+        fail("a neighbour twice is not the only fault");
+    }
 }
 
 /// A number that a rule may turn on.

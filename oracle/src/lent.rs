@@ -53,12 +53,34 @@ proved!("ratmanoep_build_with_order", fn build_with_order(
     arcs: &mut [u32], weights: &mut [u64], nodes: &mut [u32], labels: &mut [u64], heap: &mut [u64],
 ) -> u32);
 
-#[rustfmt::skip]
-proved!("ratmanoep_check_tables", fn check_tables(
-    n: usize, ranks: &[u32],
-    fwd_starts: &[u32], fwd_bases: &[u32], fwd_neighbours: &[u32], fwd_weights: &[u64], fwd_ins: &[u32], fwd_outs: &[u32],
-    bwd_starts: &[u32], bwd_bases: &[u32], bwd_neighbours: &[u32], bwd_weights: &[u64], bwd_ins: &[u32], bwd_outs: &[u32],
-) -> u32);
+/// The table check by its symbol, and what makes it of a hierarchy.
+macro_rules! proved_check {
+    ($symbol:literal, $name:ident, $of:ident) => {
+        #[rustfmt::skip]
+        proved!($symbol, fn $name(
+            n: usize, ranks: &[u32],
+            fwd_starts: &[u32], fwd_bases: &[u32], fwd_neighbours: &[u32], fwd_weights: &[u64], fwd_ins: &[u32], fwd_outs: &[u32],
+            bwd_starts: &[u32], bwd_bases: &[u32], bwd_neighbours: &[u32], bwd_weights: &[u64], bwd_ins: &[u32], bwd_outs: &[u32],
+        ) -> u32);
+
+        impl Hierarchy {
+            /// The number of the table check.
+            #[rustfmt::skip]
+            pub fn $of(&self) -> u32 {
+                let Hierarchy { nodes, ranks, fwd, bwd } = self;
+                $name(
+                    *nodes, ranks,
+                    &fwd.starts, &fwd.bases, &fwd.neighbours, &fwd.weights, &fwd.ins, &fwd.outs,
+                    &bwd.starts, &bwd.bases, &bwd.neighbours, &bwd.weights, &bwd.ins, &bwd.outs,
+                )
+            }
+        }
+    };
+}
+
+proved_check!("ratmanoep_check_tables", check_tables, check);
+#[cfg(before)] // that of another archive, its symbols renamed
+proved_check!("before_check_tables", check_tables_before, check_before);
 
 #[rustfmt::skip]
 proved!("ratmanoep_calc_path", fn calc_path(
@@ -181,16 +203,6 @@ impl Hierarchy {
             fwd: Table::of(&tables.fwd_starts, &tables.fwd),
             bwd: Table::of(&tables.bwd_starts, &tables.bwd),
         }
-    }
-
-    #[rustfmt::skip]
-    pub fn check(&self) -> u32 {
-        let Hierarchy { nodes, ranks, fwd, bwd } = self;
-        check_tables(
-            *nodes, ranks,
-            &fwd.starts, &fwd.bases, &fwd.neighbours, &fwd.weights, &fwd.ins, &fwd.outs,
-            &bwd.starts, &bwd.bases, &bwd.neighbours, &bwd.weights, &bwd.ins, &bwd.outs,
-        )
     }
 
     /// Number, weight and length of the walk.

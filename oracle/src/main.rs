@@ -119,6 +119,8 @@ fn main() {
         ["beside", ref words @ ..] => beside::run(words),
         #[cfg(beside)]
         ["time", ref names @ ..] => timing::time(names),
+        #[cfg(before)]
+        ["time-checks", ref names @ ..] => timing::time_checks(names),
         #[cfg(beside)]
         ["limits"] => limits::measure(),
         _ => fail("usage: oracle answer [--peak] | oracle records"),

@@ -1,4 +1,4 @@
-//! Added by us: the table check of document 01 (refusal 20), which the crate lacks.
+//! Added by us: the table check of document 01 and of request 7 (refusal 20), which the crate lacks.
 
 use crate::constants::{EdgeId, NodeId, INVALID_EDGE, MAX_NODES, MAX_SUM};
 use crate::fast_graph::{FastGraph, FastGraphEdge};
@@ -34,6 +34,14 @@ impl Tables {
 
     /// The hierarchy in them, without the places beyond those used; or none, if it breaks a table rule.
     pub fn read(&self) -> Option<Checked> {
+        let graph = self.by_the_paper()?;
+        let apart = neighbours_differ(&graph.first_edge_ids_fwd, &graph.edges_fwd)
+            && neighbours_differ(&graph.first_edge_ids_bwd, &graph.edges_bwd);
+        apart.then(|| Checked::new(graph))
+    }
+
+    /// The same by document 01's own rules, which let two entries of one node to one neighbour through.
+    pub fn by_the_paper(&self) -> Option<FastGraph> {
         let nodes = self.nodes;
         if nodes > MAX_NODES || self.ranks.len() < nodes || !is_permutation(&self.ranks[..nodes]) {
             return None;
@@ -52,7 +60,7 @@ impl Tables {
         }) && entries_fit(&graph, &graph.first_edge_ids_bwd, &graph.edges_bwd, |e| {
             (e.adj_node, e.base_node)
         });
-        fits.then(|| Checked::new(graph))
+        fits.then_some(graph)
     }
 }
 
@@ -121,6 +129,15 @@ fn entries_fit(
     };
     starts.windows(2).enumerate().all(|(range, stretch)| {
         edges[stretch[0]..stretch[1]].iter().all(|e| fits(e, range))
+    })
+}
+
+/// Whether no two entries of one node lead to one neighbour. By sorting: the proved code does it otherwise.
+fn neighbours_differ(starts: &[EdgeId], edges: &[FastGraphEdge]) -> bool {
+    starts.windows(2).all(|stretch| {
+        let mut neighbours: Vec<NodeId> = edges[stretch[0]..stretch[1]].iter().map(|e| e.adj_node).collect();
+        neighbours.sort_unstable();
+        neighbours.windows(2).all(|two| two[0] != two[1])
     })
 }
 

@@ -13,6 +13,8 @@ use crate::meshes::{mesh, Rng, NAMES};
 use crate::path_calculator::PathCalculator;
 use crate::random::below;
 use crate::room::{contract_within, Room};
+#[cfg(before)]
+use crate::{constants::MAX_NODES, hierarchies::complete, lent::Hierarchy, random::shuffled};
 use std::time::Instant;
 
 const LIMIT: usize = 100;
@@ -53,6 +55,33 @@ pub fn time(names: &[&str]) {
     println!("\nmany routes, {QUERIES} pairs in one call, us each");
     println!("graph      crate    ours  of it the check  ours/crate  without the check");
     meshes.iter().for_each(time_routes);
+}
+
+/// The table check beside that of another archive, on all meshes or those named, and on tables with an entry for every two of 1,024 nodes.
+#[cfg(before)]
+pub fn time_checks(names: &[&str]) {
+    let names: &[&str] = if names.is_empty() { &NAMES } else { names };
+    let meshes = names.iter().map(|name| (name.to_string(), Mesh::new(name).built));
+    let mut numbers = Rng(1);
+    let order = shuffled(&mut numbers, MAX_NODES);
+    let densest = ("densest".to_string(), complete(&mut numbers, &order));
+    println!("table check, us; over that of before");
+    println!("tables     nodes  entries    before     after  after/before");
+    for (name, graph) in meshes.chain([densest]) {
+        let entries = graph.edges_fwd.len() + graph.edges_bwd.len();
+        let tables = Hierarchy::of(&tables_of(&graph, 0));
+        let times = (4_000_000 / entries).max(1);
+        let mut least = [f64::MAX; 2];
+        for _ in 0..20 {
+            let best = best_of([
+                &mut || (0..times).filter(|_| tables.check_before() == 0).count(),
+                &mut || (0..times).filter(|_| tables.check() == 0).count(),
+            ]);
+            least = [least[0].min(best[0]), least[1].min(best[1])];
+        }
+        let [before, after] = least.map(|seconds| 1e6 * seconds / times as f64);
+        println!("{name:<10} {:>5} {entries:>8} {before:>9.2} {after:>9.2} {:>13.3}", graph.ranks.len(), after / before);
+    }
 }
 
 pub fn timed<T>(work: impl FnOnce() -> T) -> (T, f64) {

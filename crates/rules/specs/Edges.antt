@@ -6,7 +6,7 @@ use Prim.Native.Nat.{ℕ, suc, _+_, _-_, _^_}
 use lib.ListN.{getD, set, replicate}
 use Rattle.rules.specs.Numbers.{invalid}
 use Rattle.rules.specs.Lists.{range}
-use Rattle.rules.specs.Columns.{Link, Table, Hierarchy}
+use Rattle.rules.specs.Columns.{Link, Table, Entry, Hierarchy}
 use Rattle.rules.specs.Refusals.{BuildCall, QueryCall, build-scratch, check-refusal}
 use Rattle.rules.specs.Build.{build}
 use Rattle.rules.specs.Query.{End, query}
@@ -97,6 +97,14 @@ L-starting starts =
 unfoldable pub L-ranked : List ℕ → Hierarchy
 L-ranked ranks = record { ranks = ranks; forward = L-built .forward; backward = L-built .backward }
 
+-- Tables of three nodes, of ranks 0, 1, 2: starts and entries, forward and backward.
+unfoldable pub three : List ℕ → List Entry → List ℕ → List Entry → Hierarchy
+three starts entries bwd-starts bwd-entries =
+    record { ranks = 0 ∷ 1 ∷ 2 ∷ []; forward = columns starts entries; backward = columns bwd-starts bwd-entries }
+
+unfoldable pub none : List ℕ
+none = replicate 4 0
+
 -- The node 1 of five is contracted first, with room for any graph of theirs; `most` is the most that an arc may weigh.
 unfoldable pub most : ℕ
 most = 2 ^ 40
@@ -112,7 +120,7 @@ contracting-1 limit pool ls =
 unfoldable pub edging : Unit {0}
 unfolding
     less each-less blank-table blank lending built L-places L-scratch L-of most contracting-1 L-built L-query-scratch L-asking answered round-trip
-    round-trip-asking checked L-starting L-ranked L L-with L-tables observing
+    round-trip-asking checked L-starting L-ranked three none L L-with L-tables observing
 edging = tt
 
 -- Builds.
@@ -336,3 +344,34 @@ bare n = record { ranks = range 0 n; forward = columns (replicate (suc n) 0) [];
 pub checked-nodes : check-refusal 0 (L-ranked []) ∷ map (λ n. check-refusal n (bare n)) (0 ∷ 1 ∷ 1025 ∷ []) ≡ 0 ∷ 0 ∷ 0 ∷ 20 ∷ []
 unfolding bare edging
 checked-nodes = refl
+
+-- request 7: two entries of one node to one neighbour, in either table: as heavy or not, side by side or apart, of the lowest rank or
+-- another, a link and one that opens
+pub neighbour-twice : checked
+    (three (0 ∷ 2 ∷ 2 ∷ 2 ∷ []) (plain 0 1 1 ∷ plain 0 1 1 ∷ []) none [] ∷
+    three none [] (0 ∷ 2 ∷ 2 ∷ 2 ∷ []) (plain 0 1 1 ∷ plain 0 1 1 ∷ []) ∷
+    three (0 ∷ 2 ∷ 2 ∷ 2 ∷ []) (plain 0 1 1 ∷ plain 0 1 2 ∷ []) none [] ∷
+    three (0 ∷ 3 ∷ 3 ∷ 3 ∷ []) (plain 0 1 1 ∷ plain 0 2 1 ∷ plain 0 1 1 ∷ []) none [] ∷
+    three (0 ∷ 1 ∷ 3 ∷ 3 ∷ []) (plain 0 1 1 ∷ plain 1 2 1 ∷ plain 1 2 2 ∷ []) none [] ∷
+    three (0 ∷ 1 ∷ 3 ∷ 3 ∷ []) (plain 0 2 3 ∷ opened 1 2 5 0 0 ∷ plain 1 2 9 ∷ []) (0 ∷ 1 ∷ 1 ∷ 1 ∷ []) (plain 0 1 2 ∷ []) ∷
+    []) ≡
+    replicate 6 20
+unfolding edging
+neighbour-twice = refl
+
+-- one entry in each table, as of a link both ways; one neighbour of two nodes; two neighbours of one node; a place beyond the last start
+pub neighbour-once : checked
+    (three (0 ∷ 1 ∷ 1 ∷ 1 ∷ []) (plain 0 1 1 ∷ []) (0 ∷ 1 ∷ 1 ∷ 1 ∷ []) (plain 0 1 1 ∷ []) ∷
+    three (0 ∷ 1 ∷ 2 ∷ 2 ∷ []) (plain 0 2 1 ∷ plain 1 2 1 ∷ []) (0 ∷ 1 ∷ 2 ∷ 2 ∷ []) (plain 0 2 1 ∷ plain 1 2 1 ∷ []) ∷
+    three (0 ∷ 2 ∷ 2 ∷ 2 ∷ []) (plain 0 1 1 ∷ plain 0 2 1 ∷ []) none [] ∷
+    three (0 ∷ 1 ∷ 1 ∷ 1 ∷ []) (plain 0 1 1 ∷ plain 0 1 1 ∷ []) none [] ∷
+    []) ≡
+    replicate 4 0
+unfolding edging
+neighbour-once = refl
+
+-- it is 20 to a query too, before ends, path and scratch are looked at, and nothing is written
+pub twice-before-ends : query (querying 3 (three (0 ∷ 2 ∷ 2 ∷ 2 ∷ []) (plain 0 1 1 ∷ plain 0 1 2 ∷ []) none []) [] [] 1 []) ≡
+    record { number = 20; weight = 18446744073709551615; walk = []; path = 7 ∷ [] }
+unfolding edging
+twice-before-ends = refl
