@@ -223,7 +223,8 @@ uint32_t ratmanoep_build_with_order(
  *
  * Answers 0, or 20: more than 1,024 nodes; fewer than n ranks or n + 1 starts; a table's columns of unequal length; ranks that are no
  * permutation; starts that do not begin at 0, fall, or end beyond the table; a used entry whose base has another rank than its range,
- * whose neighbour has no higher one, whose weight is not 1 to 2^40, or whose two numbers do not fit. Nothing is written.
+ * whose neighbour has no higher one, whose weight is not 1 to 2^40, or whose two numbers do not fit; two used entries of one node to one
+ * neighbour in one table. Nothing is written.
  */
 uint32_t ratmanoep_check_tables(
     size_t n,

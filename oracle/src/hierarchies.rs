@@ -32,13 +32,12 @@ pub fn drawn(numbers: &mut Rng, round: usize) -> (&'static str, Tables, Option<I
             made_up(numbers, nodes)
         }
     };
-    if kind >= 5 {
-        twin(numbers, &mut tables);
-    } else if kind % 2 == 1 {
+    if kind < 5 && kind % 2 == 1 {
         for _ in 0..[1, 1, 1, 2, 3][below(numbers, 5)] {
             damage(numbers, &mut tables);
         }
     }
+    let kind = if kind < 5 || twin(numbers, &mut tables) { kind } else { 2 * (kind - 5) };
     (KINDS[kind], tables, graph.filter(|_| kind == 0))
 }
 
@@ -200,8 +199,8 @@ fn shortcuts(graph: &FastGraph, base: NodeId, forward: bool) -> Vec<FastGraphEdg
 }
 
 /// An entry more, to a neighbour that its node has an entry to already, in the same table: of another weight, or as heavy, plain or opened. Starts
-/// and numbers are moved along, so that document 01's own rules still hold. Tables without an entry stay.
-fn twin(numbers: &mut Rng, tables: &mut Tables) {
+/// and numbers are moved along, so that document 01's own rules still hold. Whether there was an entry to do this with.
+fn twin(numbers: &mut Rng, tables: &mut Tables) -> bool {
     let mut forward = below(numbers, 2) == 0;
     if (if forward { &tables.fwd_starts } else { &tables.bwd_starts })[tables.nodes] == 0 {
         forward = !forward;
@@ -209,7 +208,7 @@ fn twin(numbers: &mut Rng, tables: &mut Tables) {
     let (starts, columns) = if forward { (&mut tables.fwd_starts, &mut tables.fwd) } else { (&mut tables.bwd_starts, &mut tables.bwd) };
     let used = starts[tables.nodes];
     if used == 0 {
-        return;
+        return false;
     }
     let of = below(numbers, used);
     let rank = (0..tables.nodes).rfind(|&rank| starts[rank] <= of).unwrap_or(0);
@@ -232,6 +231,7 @@ fn twin(numbers: &mut Rng, tables: &mut Tables) {
     if tables.by_the_paper().is_none() || tables.read().is_some() {
         fail("a neighbour twice is not the only fault");
     }
+    true
 }
 
 /// A number that a rule may turn on.

@@ -106,12 +106,21 @@ fn end_counts() {
 fn stored_tables_come_back_and_damaged_ones_do_not() {
     let stored = case_l().tables().clone();
     assert_eq!(FastGraph::from_tables(3, stored.clone()), Ok(case_l()));
-    let damages: [fn(&mut Tables); 5] = [
+    let damages: [fn(&mut Tables); 6] = [
         |t| t.ranks[0] = 0,
         |t| t.fwd.weights[1] = 6,
         |t| t.fwd.starts[1] = 7,
         |t| t.bwd.neighbours.clear(),
         |t| t.fwd.ins[1] = u32::MAX,
+        // a second entry of node 0 to node 2, a link of its own
+        |t| {
+            let fwd = &mut t.fwd;
+            for (column, number) in [(&mut fwd.bases, 0), (&mut fwd.neighbours, 2), (&mut fwd.ins, u32::MAX), (&mut fwd.outs, u32::MAX)] {
+                column.push(number);
+            }
+            fwd.weights.push(9);
+            fwd.starts[2..].fill(3);
+        },
     ];
     for damage in damages {
         let mut tables = stored.clone();

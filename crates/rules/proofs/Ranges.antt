@@ -9,7 +9,7 @@ use native.Mathlib.Nat.{add-sub-of-le}
 use lib.Dec.{eqb}
 use lib.ListN.{length, getD, length-map}
 use borrow.Author.Tests.{eq-eqb, not-true}
-use Rattle.rules.specs.Lists.{Decides, all, any, distinct, range, count-from}
+use Rattle.rules.specs.Lists.{Decides, TellsApart, all, any, distinct, range, count-from}
 use Rattle.rules.proofs.Cases.{not-both}
 use Rattle.rules.proofs.Members.{in-any, any-same, getD-in, in-getD}
 use Rattle.rules.proofs.Decides.{and-both, both-and}
@@ -85,7 +85,7 @@ differ-distinct (x ∷ xs) d f =
 pub distinct-decides : (xs : List ℕ) (d : ℕ) → Decides (distinct xs) (Differ xs d)
 distinct-decides xs d = (distinct-differ xs d, differ-distinct xs d)
 
--- Numbers told for each place of a range: no two places are told the same.
+-- Numbers told for each place of a range: they are distinct exactly if they tell the places apart.
 module _ (f : ℕ → ℕ) (a b : ℕ) where
   pub told-length : length (map f (range a b)) ≡ b - a
   told-length = length-map (range a b) f ∙ range-length a b
@@ -96,7 +96,7 @@ module _ (f : ℕ → ℕ) (a b : ℕ) where
   told-from : (d : ℕ) → a ≤ d → d < b → getD (map f (range a b)) (d - a) 0 ≡ f d
   told-from d low high = told-at (d - a) (omega arith) ∙ ap f (add-sub-of-le low)
 
-  pub places-differ : Decides (distinct (map f (range a b))) ((d e : ℕ) → a ≤ d → d < b → a ≤ e → e < b → f d ≡ f e → d ≡ e)
+  pub places-differ : Decides (distinct (map f (range a b))) (TellsApart f a b)
   places-differ = (
     λ t d e dl dh el eh same.
         omega (

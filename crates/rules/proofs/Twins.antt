@@ -17,11 +17,12 @@ use Rattle.rules.proofs.Refutes.{Twice, all-refutes, distinct-refutes}
 module _ (n : ℕ) (h : Hierarchy) where
   pub twins-break : Twins n h → TableRules n h → ⊥
   twins-break t rules =
-      let low = t .from in
-      let high = t .to in
-      let same = rules .neighbours-differ (t .side) (t .rank) (t .below) (t .first) (t .second) low (omega (arith, t .later, high))
-      (omega (arith, low, t .later)) high (t .alike) in
-      omega (arith, t .later)
+      omega (
+        arith,
+        t .later,
+        rules .neighbours-differ (t .side) (t .rank) (t .below) (t .first) (t .second) (t .from) (omega (arith, t .later, t .to))
+            (omega (arith, t .from, t .later)) (t .to) (t .alike),
+      )
 
   module _ (s : Side) where
     abbrev from : ℕ → ℕ

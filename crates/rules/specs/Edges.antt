@@ -4,7 +4,6 @@ use mathlib.Core.Path.{_≡_, refl}
 use mathlib.Core.List.{List, [], _∷_, _++_, map}
 use Prim.Native.Nat.{ℕ, suc, _+_, _-_, _^_}
 use lib.ListN.{getD, set, replicate}
-use Rattle.rules.specs.Numbers.{invalid}
 use Rattle.rules.specs.Lists.{range}
 use Rattle.rules.specs.Columns.{Link, Table, Entry, Hierarchy}
 use Rattle.rules.specs.Refusals.{BuildCall, QueryCall, build-scratch, check-refusal}

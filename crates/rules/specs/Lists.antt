@@ -3,7 +3,7 @@ use mathlib.Core.Path.{_≡_}
 use mathlib.Core.Logic.{_↔_}
 use mathlib.Core.Bool.{Bool, true, false, not, _&&_, _||_}
 use mathlib.Core.List.{List, [], _∷_, _++_, List·Memᴰ}
-use Prim.Native.Nat.{ℕ, zero, suc, _-_}
+use Prim.Native.Nat.{ℕ, zero, suc, _-_, _≤_, _<_}
 use lib.Dec.{eqb}
 use lib.ListN.{length, drop, set, replicate}
 
@@ -65,6 +65,10 @@ count-from a (suc n) = a ∷ count-from (suc a) n
 -- a, a + 1, .. below b
 unfoldable pub range : ℕ → ℕ → List ℕ
 range a b = count-from a (b - a)
+
+-- tells the numbers from a to b apart
+abbrev pub TellsApart : (ℕ → ℕ) → ℕ → ℕ → Type 0
+TellsApart f a b = (d e : ℕ) → a ≤ d → d < b → a ≤ e → e < b → f d ≡ f e → d ≡ e
 
 unfoldable pub distinct : List ℕ → Bool
 distinct [] = true

@@ -7,7 +7,7 @@ use Prim.Native.Nat.{ℕ, suc, _+_, _≤_, _<_}
 use lib.Dec.{eqb, ltb, leb}
 use lib.ListN.{length, take}
 use Rattle.rules.specs.Numbers.{maxNodes, maxWeight, invalid}
-use Rattle.rules.specs.Lists.{all, distinct, range}
+use Rattle.rules.specs.Lists.{TellsApart, all, distinct, range}
 use Rattle.rules.specs.Columns.{Table, Entry, Hierarchy, Side, forward, backward, table, entry, rank, begin, places, room, equally-long, EquallyLong}
 
 -- an entry leads from its tail to its head
@@ -25,8 +25,7 @@ used n t = begin t n
 
 -- request 7: no two of the entries from a to b lead to one neighbour
 abbrev pub NeighboursDiffer : Table → ℕ → ℕ → Type 0
-NeighboursDiffer t a b =
-    (d e : ℕ) → a ≤ d → d < b → a ≤ e → e < b → entry t d .neighbour ≡ entry t e .neighbour → d ≡ e
+NeighboursDiffer t a b = TellsApart (λ e. entry t e .neighbour) a b
 
 module _ (n : ℕ) (h : Hierarchy) where
   -- "both entries of one node of lower rank than the base, with fitting ends and weights summing to its own":

@@ -6,6 +6,7 @@ use native.Mathlib.Omega.{arith}
 use native.Mathlib.Decide.{decLt, ℕ-discrete}
 use lib.ListN.{getD, set, replicate, length-set}
 use lib.Seq.{getD-set-same, getD-set-other}
+use Rattle.rules.specs.Lists.{TellsApart}
 use Rattle.tables.specs.Shapes.{Earlier}
 
 -- a mark that stands everywhere
@@ -16,9 +17,6 @@ everywhere k (suc n) (suc u) = everywhere k n u
 
 -- Each place from a on tells a number, and the mark of this turn is k.
 module _ (f : ℕ → ℕ) (k a : ℕ) where
-  abbrev pub Apart : ℕ → Type 0
-  Apart b = (d e : ℕ) → a ≤ d → d < b → a ≤ e → e < b → f d ≡ f e → d ≡ e
-
   -- after the places before e: a number has the mark exactly if one of them tells it
   pub record Marked (e : ℕ) (marks : List ℕ) : Type 0 where
     pub most : Earlier (k + 1) marks
@@ -34,12 +32,12 @@ module _ (f : ℕ → ℕ) (k a : ℕ) where
       }
 
   module _ (e : ℕ) (marks : List ℕ) (low : a ≤ e) (m : Marked e marks) where
-    pub twice : (b : ℕ) → e < b → getD marks (f e) 0 ≡ k → Apart b → ⊥
+    pub twice : (b : ℕ) → e < b → getD marks (f e) 0 ≡ k → TellsApart f a b → ⊥
     twice b high is apart =
         let w = m .told (f e) is in
         omega (arith, w .2, apart (w .0) e (w .1) (omega (arith, w .2)) low high (w .3))
 
-    pub one-more : (getD marks (f e) 0 ≡ k → ⊥) → Apart e → Apart (e + 1)
+    pub one-more : (getD marks (f e) 0 ≡ k → ⊥) → TellsApart f a e → TellsApart f a (e + 1)
     one-more other apart d c dl dh cl ch same =
         elim (decLt d e) [
           | yes before ↦
