@@ -9,6 +9,7 @@ use crate::meshes::Rng;
 use crate::random::{any_column, any_number, below, random_graph, random_size, shuffled};
 use crate::tables::Tables;
 use std::cmp::Reverse;
+use std::collections::HashSet;
 
 pub const KINDS: [&str; 7] = [
     "built tables",
@@ -154,8 +155,8 @@ fn jumble(numbers: &mut Rng, order: &[NodeId]) -> FastGraph {
                 entries.push(fitting[below(numbers, fitting.len())]);
             }
         }
-        let mut seen = vec![];
-        entries.retain(|e| !seen.contains(&e.adj_node) && { seen.push(e.adj_node); true });
+        let mut seen = HashSet::new();
+        entries.retain(|e| seen.insert(e.adj_node));
         entries
     })
 }

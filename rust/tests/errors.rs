@@ -115,7 +115,12 @@ fn stored_tables_come_back_and_damaged_ones_do_not() {
         // a second entry of node 0 to node 2, a link of its own
         |t| {
             let fwd = &mut t.fwd;
-            for (column, number) in [(&mut fwd.bases, 0), (&mut fwd.neighbours, 2), (&mut fwd.ins, u32::MAX), (&mut fwd.outs, u32::MAX)] {
+            for (column, number) in [
+                (&mut fwd.bases, 0),
+                (&mut fwd.neighbours, 2),
+                (&mut fwd.ins, u32::MAX),
+                (&mut fwd.outs, u32::MAX),
+            ] {
                 column.push(number);
             }
             fwd.weights.push(9);
