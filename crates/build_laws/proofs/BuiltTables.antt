@@ -399,17 +399,17 @@ module _ (c : BuildCall) (ok : AcceptedBuild c) (small : (w : ℕ) → In w (c .
 
   -- A level's arcs have no neighbour twice, so the entries of its rank have none.
   module _ (s : Side) (r : ℕ) (hr : r < n) where
-    abbrev heads : List ℕ
-    heads = map (neighbour-of s) (arcs-of s (getD L r no-level))
+    abbrev neighbours : List ℕ
+    neighbours = map (neighbour-of s) (arcs-of s (getD L r no-level))
 
-    heads-differ : Differ heads 0
-    heads-differ =
+    neighbours-apart : Differ neighbours 0
+    neighbours-apart =
         let level = level-is (getD L r no-level) (level-at r hr .1) in
-        distinct-decides heads 0 .0 (neighbours-distinct s _ _ (level .apart s) (level .own s))
+        distinct-decides neighbours 0 .0 (neighbours-distinct s _ _ (level .apart s) (level .own s))
 
     -- the neighbour at a place of the rank, counted from its start
     neighbour-at : (e : ℕ) → begin (table h s) r ≤ e → e < begin (table h s) (suc r) →
-        (e - starts-at s r < length heads) × (entry (table h s) e .neighbour ≡ getD heads (e - starts-at s r) 0)
+        (e - starts-at s r < length neighbours) × (entry (table h s) e .neighbour ≡ getD neighbours (e - starts-at s r) 0)
     unfolding raw
     neighbour-at e low high =
         let arcs = arcs-of s (getD L r no-level) in
@@ -426,7 +426,7 @@ module _ (c : BuildCall) (ok : AcceptedBuild c) (small : (w : ℕ) → In w (c .
         let y = neighbour-at e el eh in
         omega (
           arith,
-          heads-differ (d - starts-at s r) (e - starts-at s r) (x .0) (y .0) (sym (x .1) ∙ same ∙ y .1),
+          neighbours-apart (d - starts-at s r) (e - starts-at s r) (x .0) (y .0) (sym (x .1) ∙ same ∙ y .1),
           begin-is s r (omega arith),
         )
 

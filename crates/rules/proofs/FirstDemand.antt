@@ -16,7 +16,7 @@ use Rattle.rules.specs.FirstDemand.{Lowest, build-table, query-table, Fi
 use Rattle.rules.proofs.Cases.{on-test}
 use Rattle.rules.proofs.Decides.{denied}
 use Rattle.rules.proofs.TablesDecided.{tables-decided}
-use Rattle.rules.proofs.Twins.{twins-break, twins-found}
+use Rattle.rules.proofs.Twins.{twins-break, twins-found, paper-weaker, twins-there}
 use Rattle.rules.proofs.Numbers.{query-refusal-least, pool-exceeded, table-exceeded, sum-exceeded}
 use Rattle.rules.proofs.Sentences.{build-lowest, query-lowest, check-decided}
 use Rattle.rules.proofs.Outcomes.{early, late, whole, ended, marked-fills, built-beyond}
@@ -231,6 +231,8 @@ first-demand =
       check-refused = check-refused;
       check-passes = check-passes;
       only-twins = only-twins;
+      paper-weaker = paper-weaker;
+      twins-there = twins-there;
       query-numbers = query-numbers;
       query-refused = λ q r low high. Iff·trans (query-number q r low high) (query-lowest q r);
       query-works = query-works;

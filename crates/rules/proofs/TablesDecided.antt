@@ -6,7 +6,7 @@ use lib.ListN.{length, getD, take}
 use lib.Seq.{getD-take, length-take-le}
 use Rattle.rules.specs.Numbers.{maxNodes, maxWeight, invalid}
 use Rattle.rules.specs.Columns.{Table, Entry, Hierarchy, Side, forward, backward, table, entry, rank, begin, places, room, equally-long, EquallyLong}
-use Rattle.rules.specs.TableRules.{tail-of, head-of, used, NeighboursDiffer, Fitting, EntryRules, SideRules, TableRules, opens-test, numbers-test, entry-test, shape-test, rank-test, side-test, ranks-test, table-test}
+use Rattle.rules.specs.TableRules.{tail-of, head-of, used, NeighboursDiffer, Fitting, EntryRules, SideRules, EachDiffers, TableRules, opens-test, numbers-test, entry-test, shape-test, rank-test, side-test, ranks-test, table-test}
 use Rattle.rules.specs.Lists.{Decides}
 use Rattle.rules.proofs.Decides.{ltb-decides, leb-decides, eqb-decides, and-decides, or-decides, if-decides, decides-as}
 use Rattle.rules.proofs.Ranges.{all-decides, distinct-decides, Differ, places-differ}
@@ -89,11 +89,7 @@ module _ (n : ℕ) (h : Hierarchy) where
         ),
       )
 
-  -- no neighbour twice among the entries of any rank
-  abbrev pub EachDiffers : Side → Type 0
-  EachDiffers s = (r : ℕ) → r < n → NeighboursDiffer (table h s) (begin (table h s) r) (begin (table h s) (suc r))
-
-  side-decided : (s : Side) → Decides (side-test n h s) (SideRules n h s × EachDiffers s)
+  pub side-decided : (s : Side) → Decides (side-test n h s) (SideRules n h s × EachDiffers n h s)
   unfolding side-test shape-test rank-test places
   side-decided s =
       decides-as

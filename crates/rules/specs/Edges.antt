@@ -101,8 +101,9 @@ unfoldable pub three : List ℕ → List Entry → List ℕ → List Entry → H
 three starts entries bwd-starts bwd-entries =
     record { ranks = 0 ∷ 1 ∷ 2 ∷ []; forward = columns starts entries; backward = columns bwd-starts bwd-entries }
 
-unfoldable pub none : List ℕ
-none = replicate 4 0
+-- the starts of a table without entries
+unfoldable pub empty : List ℕ
+empty = replicate 4 0
 
 -- The node 1 of five is contracted first, with room for any graph of theirs; `most` is the most that an arc may weigh.
 unfoldable pub most : ℕ
@@ -119,7 +120,7 @@ contracting-1 limit pool ls =
 unfoldable pub edging : Unit {0}
 unfolding
     less each-less blank-table blank lending built L-places L-scratch L-of most contracting-1 L-built L-query-scratch L-asking answered round-trip
-    round-trip-asking checked L-starting L-ranked three none L L-with L-tables observing
+    round-trip-asking checked L-starting L-ranked three empty L L-with L-tables observing
 edging = tt
 
 -- Builds.
@@ -347,11 +348,11 @@ checked-nodes = refl
 -- request 7: two entries of one node to one neighbour, in either table: as heavy or not, side by side or apart, of the lowest rank or
 -- another, a link and one that opens
 pub neighbour-twice : checked
-    (three (0 ∷ 2 ∷ 2 ∷ 2 ∷ []) (plain 0 1 1 ∷ plain 0 1 1 ∷ []) none [] ∷
-    three none [] (0 ∷ 2 ∷ 2 ∷ 2 ∷ []) (plain 0 1 1 ∷ plain 0 1 1 ∷ []) ∷
-    three (0 ∷ 2 ∷ 2 ∷ 2 ∷ []) (plain 0 1 1 ∷ plain 0 1 2 ∷ []) none [] ∷
-    three (0 ∷ 3 ∷ 3 ∷ 3 ∷ []) (plain 0 1 1 ∷ plain 0 2 1 ∷ plain 0 1 1 ∷ []) none [] ∷
-    three (0 ∷ 1 ∷ 3 ∷ 3 ∷ []) (plain 0 1 1 ∷ plain 1 2 1 ∷ plain 1 2 2 ∷ []) none [] ∷
+    (three (0 ∷ 2 ∷ 2 ∷ 2 ∷ []) (plain 0 1 1 ∷ plain 0 1 1 ∷ []) empty [] ∷
+    three empty [] (0 ∷ 2 ∷ 2 ∷ 2 ∷ []) (plain 0 1 1 ∷ plain 0 1 1 ∷ []) ∷
+    three (0 ∷ 2 ∷ 2 ∷ 2 ∷ []) (plain 0 1 1 ∷ plain 0 1 2 ∷ []) empty [] ∷
+    three (0 ∷ 3 ∷ 3 ∷ 3 ∷ []) (plain 0 1 1 ∷ plain 0 2 1 ∷ plain 0 1 1 ∷ []) empty [] ∷
+    three (0 ∷ 1 ∷ 3 ∷ 3 ∷ []) (plain 0 1 1 ∷ plain 1 2 1 ∷ plain 1 2 2 ∷ []) empty [] ∷
     three (0 ∷ 1 ∷ 3 ∷ 3 ∷ []) (plain 0 2 3 ∷ opened 1 2 5 0 0 ∷ plain 1 2 9 ∷ []) (0 ∷ 1 ∷ 1 ∷ 1 ∷ []) (plain 0 1 2 ∷ []) ∷
     []) ≡
     replicate 6 20
@@ -362,15 +363,15 @@ neighbour-twice = refl
 pub neighbour-once : checked
     (three (0 ∷ 1 ∷ 1 ∷ 1 ∷ []) (plain 0 1 1 ∷ []) (0 ∷ 1 ∷ 1 ∷ 1 ∷ []) (plain 0 1 1 ∷ []) ∷
     three (0 ∷ 1 ∷ 2 ∷ 2 ∷ []) (plain 0 2 1 ∷ plain 1 2 1 ∷ []) (0 ∷ 1 ∷ 2 ∷ 2 ∷ []) (plain 0 2 1 ∷ plain 1 2 1 ∷ []) ∷
-    three (0 ∷ 2 ∷ 2 ∷ 2 ∷ []) (plain 0 1 1 ∷ plain 0 2 1 ∷ []) none [] ∷
-    three (0 ∷ 1 ∷ 1 ∷ 1 ∷ []) (plain 0 1 1 ∷ plain 0 1 1 ∷ []) none [] ∷
+    three (0 ∷ 2 ∷ 2 ∷ 2 ∷ []) (plain 0 1 1 ∷ plain 0 2 1 ∷ []) empty [] ∷
+    three (0 ∷ 1 ∷ 1 ∷ 1 ∷ []) (plain 0 1 1 ∷ plain 0 1 1 ∷ []) empty [] ∷
     []) ≡
     replicate 4 0
 unfolding edging
 neighbour-once = refl
 
 -- it is 20 to a query too, before ends, path and scratch are looked at, and nothing is written
-pub twice-before-ends : query (querying 3 (three (0 ∷ 2 ∷ 2 ∷ 2 ∷ []) (plain 0 1 1 ∷ plain 0 1 2 ∷ []) none []) [] [] 1 []) ≡
+pub twice-before-ends : query (querying 3 (three (0 ∷ 2 ∷ 2 ∷ 2 ∷ []) (plain 0 1 1 ∷ plain 0 1 2 ∷ []) empty []) [] [] 1 []) ≡
     record { number = 20; weight = 18446744073709551615; walk = []; path = 7 ∷ [] }
 unfolding edging
 twice-before-ends = refl

@@ -239,6 +239,9 @@ pub record FirstDemand : Type 0 where
   pub check-passes : (n : ℕ) (h : Hierarchy) → (check-refusal n h ≡ 0) ↔ TableRules n h
   -- Of tables that document 01's own rules let through it meets those with two entries of one node to one neighbour, and no others.
   pub only-twins : (n : ℕ) (h : Hierarchy) → PaperRules n h → (check-refusal n h ≡ 20) ↔ Twins n h
+  -- They let through all that pass, and some that do not.
+  pub paper-weaker : (n : ℕ) (h : Hierarchy) → TableRules n h → PaperRules n h
+  pub twins-there : (n : ℕ) × (h : Hierarchy) × PaperRules n h × Twins n h
   -- The query: 0 or 20 to 25; 20 to 24 exactly when; 25 exactly when the walk of the steps is longer than the buffer; what then.
   pub query-numbers : (q : QueryCall) → (query q .number ≡ 0) ⊎ ((20 ≤ query q .number) × (query q .number ≤ 25))
   pub query-refused : (q : QueryCall) (r : ℕ) → 1 ≤ r → r ≤ 24 → (query q .number ≡ r) ↔ Lowest (query-table q) r

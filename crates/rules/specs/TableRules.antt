@@ -23,7 +23,7 @@ head-of backward e = e .base
 unfoldable pub used : ℕ → Table → ℕ
 used n t = begin t n
 
--- request 7: no two of the entries from a to b lead to one neighbour
+-- no two of the entries from a to b lead to one neighbour
 abbrev pub NeighboursDiffer : Table → ℕ → ℕ → Type 0
 NeighboursDiffer t a b = TellsApart (λ e. entry t e .neighbour) a b
 
@@ -61,6 +61,10 @@ module _ (n : ℕ) (h : Hierarchy) where
     pub end-within : used n (table h s) ≤ room (table h s)
     pub entry-rules : (r : ℕ) → r < n → (e : ℕ) → begin (table h s) r ≤ e → e < begin (table h s) (suc r) → EntryRules s r (entry (table h s) e)
 
+  -- request 7, of one table: no two entries of one node lead to one neighbour
+  abbrev pub EachDiffers : Side → Type 0
+  EachDiffers s = (r : ℕ) → r < n → NeighboursDiffer (table h s) (begin (table h s) r) (begin (table h s) (suc r))
+
   -- "the first n ranks a permutation": each is below n, and no two are the same
   pub record TableRules : Type 0 where
     pub nodes : n ≤ maxNodes
@@ -68,7 +72,7 @@ module _ (n : ℕ) (h : Hierarchy) where
     pub ranks-below : (v : ℕ) → v < n → rank h v < n
     pub ranks-differ : (u v : ℕ) → u < n → v < n → rank h u ≡ rank h v → u ≡ v
     pub side-rules : (s : Side) → SideRules s
-    pub neighbours-differ : (s : Side) (r : ℕ) → r < n → NeighboursDiffer (table h s) (begin (table h s) r) (begin (table h s) (suc r))
+    pub neighbours-differ : (s : Side) → EachDiffers s
 
   -- The test, in the same order.
   unfoldable pub opens-test : Side → Entry → Entry → Entry → Bool
