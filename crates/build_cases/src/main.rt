@@ -1,5 +1,7 @@
 // The builds of the repository's fixed list (oracle/fixed/build.bin), which holds the Rust's tables and the refusals: how many give
 // the list's number and leave every lent place as it says.
+#![tactic(auto)]
+
 ghost use Rattle.std.specs.Prelude.{◌≤◌};
 
 use libc::{STDIN_FILENO, STDOUT_FILENO};

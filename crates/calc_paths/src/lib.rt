@@ -2,6 +2,8 @@
 //
 // Columns: f of the forward table, b of the backward one; s starts, b bases, m neighbours, w weights, i and o the two numbers; l labels and
 // h heap of either side.
+#![tactic(auto)]
+
 ghost use Rattle.std.specs.Prelude.{[], ◌∷◌, ◌≡◌, ◌*◌, length, get_or};
 ghost use Rattle.rules.specs.Refusals.{first_met, short};
 ghost use Rattle.tables.specs.Lent.{columns, lent};

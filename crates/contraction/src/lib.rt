@@ -1,4 +1,6 @@
 // Rules 1 to 4 over the whole order: the ranks are laid into both tables, and each node is contracted in its turn.
+#![tactic(auto)]
+
 ghost use Rattle.std.specs.Prelude.{List, ℕ, ◌+◌};
 ghost use Rattle.rules.specs.Columns.{Links, Hierarchy};
 ghost use Rattle.rules.specs.Build.{Building};

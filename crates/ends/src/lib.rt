@@ -1,4 +1,6 @@
 // Sources and targets of a query: whether they can be taken, and the first step, over equal nodes of both.
+#![tactic(auto)]
+
 ghost use Rattle.std.specs.Prelude.{◌≡◌, ◌≤◌, ltb, length};
 ghost use Rattle.rules.specs.Lists.{all};
 ghost use Rattle.rules.specs.Refusals.{ends_fit, offset_fits};

@@ -1,4 +1,6 @@
 // Writes the entries of a rank: a node's list into the columns of a table, from the rank's start onward.
+#![tactic(auto)]
+
 ghost use Rattle.std.specs.Prelude.{List, ◌≡◌, ℕ, ◌+◌, ◌≤◌, ◌<◌, length};
 ghost use Rattle.rules.specs.Graph.{Arc};
 ghost use Rattle.rules.specs.Build.{Level};

@@ -1,4 +1,6 @@
 // The build in a given order: document 01's call, whole.
+#![tactic(auto)]
+
 ghost use Rattle.std.specs.Prelude.{◌≡◌, ◌≤◌};
 ghost use Rattle.rules.specs.Refusals.{BuildCall};
 ghost use Rattle.rules.specs.Build.{Step, Building, built, build};

@@ -1,4 +1,6 @@
 // Rule 5: at the end each centre becomes two numbers, and the order's inverse is written.
+#![tactic(auto)]
+
 ghost use Rattle.std.specs.Prelude.{List, ℕ, ◌+◌, ◌≤◌, ◌<◌, length, get_or};
 ghost use Rattle.rules.specs.Columns.{Side};
 ghost use Rattle.rules.specs.Refusals.{BuildCall};

@@ -1,5 +1,7 @@
 // Reads the repository's fixed lists of cases and answers (oracle/README.md, "The fixed list"): little-endian numbers, from front to
 // back. Past the end every number is 0.
+#![tactic(auto)]
+
 ghost use Rattle.std.specs.Prelude.{◌≤◌, length};
 
 // So many bytes on, but never past the end.

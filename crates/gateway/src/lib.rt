@@ -1,4 +1,6 @@
 // The record program as one function over bytes.
+#![tactic(auto)]
+
 ghost use Rattle.std.specs.Prelude.{◌+◌, ◌^◌, ◌≤◌, ◌<◌, length};
 ghost use Rattle.rules.specs.Query.{query};
 ghost use Rattle.rules.specs.Program.{u16_at, query_call, answering, answer_line, program};

@@ -1,4 +1,6 @@
 // The records before the build: links and order entries, as far as they come in their sequence.
+#![tactic(auto)]
+
 ghost use Rattle.std.specs.Prelude.{◌+◌, ◌^◌, ◌<◌, length};
 ghost use Rattle.gather.specs.Gathering.{Rooms, Gathering, More, Begun, Done, LinkPut};
 

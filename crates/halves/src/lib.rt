@@ -3,6 +3,8 @@
 // A label is four numbers a node: weight, parent, the entry that it came along, and a stamp. A query has a base: a stamp below it is
 // of an earlier query, the base itself says that the node has a label, and the number after it that the node is settled. So a query
 // clears nothing, and what it costs does not grow with the nodes.
+#![tactic(auto)]
+
 ghost use Rattle.std.specs.Prelude.{◌≡◌, ◌+◌, ◌*◌, ◌^◌, ◌<◌, ◌≤◌, ltb, length};
 ghost use Rattle.rules.specs.Query.{lower};
 ghost use Rattle.halves.specs.Labels.{of, label, seen, stamp, put_label, put_settled, Before};

@@ -2,6 +2,8 @@
 //
 // Item i is the weight at 2 * i and the node at 2 * i + 1; its parent is item (i - 1) / 2. How many items there are is the
 // caller's to keep. An item that moves is held in hand, and its place is a gap until it is put down: a step is one store.
+#![tactic(auto)]
+
 ghost use Rattle.std.specs.Prelude.{◌≡◌, ◌+◌, ◌*◌, ◌-◌, ◌/◌, ◌<◌, ◌≤◌, length};
 ghost use Rattle.rules.specs.Heap.{leaves_first};
 ghost use Rattle.heap.specs.Items.{of, pair, item, items};
@@ -9,7 +11,7 @@ ghost use Rattle.heap.specs.Shape.{Ordered};
 ghost use Rattle.heap.specs.Promises.{Pushed, Popped};
 ghost use Rattle.heap.specs.Gaps.{put, Gap, Above, Leads, Sunk, Filled};
 
-#[derive(Drop)]
+#[derive(Clone, Copy)]
 pub struct Item {
     pub weight: u64,
     pub node: u64,

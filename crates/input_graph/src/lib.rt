@@ -1,4 +1,6 @@
 // Refusals 1 to 6: whether columns of numbers are the links of a graph of n nodes.
+#![tactic(auto)]
+
 ghost use Rattle.std.specs.Prelude.{◌≡◌, not};
 ghost use Rattle.rules.specs.Lists.{any};
 ghost use Rattle.rules.specs.Columns.{link_list};

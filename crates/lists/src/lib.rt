@@ -5,6 +5,8 @@
 // 4 * v on: first and last of its out list, first and last of its in list. INVALID ends a list.
 //
 // Out list and in list are sides 0 and 1 of one layout, so each step is written once for both.
+#![tactic(auto)]
+
 ghost use Rattle.std.specs.Prelude.{◌≡◌, List, ℕ, ◌+◌, ◌*◌, ◌-◌, ◌<◌, ◌≤◌, eqb, length, set};
 ghost use Rattle.rules.specs.Numbers.{invalid};
 ghost use Rattle.rules.specs.Lists.{In};

@@ -1,4 +1,6 @@
 // Sets every place that was lent for a hierarchy to the mark of its column.
+#![tactic(auto)]
+
 ghost use Rattle.std.specs.Prelude.{◌≡◌};
 ghost use Rattle.rules.specs.Numbers.{invalid, no_weight};
 ghost use Rattle.rules.specs.Lists.{filled};

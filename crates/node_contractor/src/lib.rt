@@ -1,4 +1,6 @@
 // Contracts a node: shortcuts between its neighbours, where no witness makes them needless, and then its arcs go.
+#![tactic(auto)]
+
 ghost use Rattle.std.specs.Prelude.{List, ℕ, ◌≤◌};
 ghost use Rattle.rules.specs.Graph.{Arc};
 ghost use Rattle.rules.specs.Search.{Search};

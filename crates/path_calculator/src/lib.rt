@@ -2,6 +2,8 @@
 //
 // Columns as in unpacking: f of the forward table, b of the backward one; s starts, b bases, m neighbours, w weights, i and o the two
 // numbers; l labels and h heap of either side.
+#![tactic(auto)]
+
 ghost use Rattle.tables.specs.Lent.{columns, lent};
 ghost use Rattle.turns.specs.Turning.{of};
 ghost use Rattle.path_calculator.specs.Searching.{Searching, Searched};

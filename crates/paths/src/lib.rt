@@ -1,6 +1,8 @@
 // The walk through a meeting node: up the labels of either side, each entry opened on the way.
 //
 // Columns as in unpacking: f of the forward table, b of the backward one; b bases, m neighbours, i and o the two numbers.
+#![tactic(auto)]
+
 ghost use Rattle.std.specs.Prelude.{[], ◌∷◌};
 ghost use Rattle.rules.specs.Columns.{forward, backward};
 ghost use Rattle.unpacking.specs.Written.{shown, Put};

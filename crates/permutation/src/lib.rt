@@ -1,4 +1,6 @@
 // Whether numbers name each of the nodes once: refusal 8 asks it of an order, refusal 20 of the ranks.
+#![tactic(auto)]
+
 ghost use Rattle.std.specs.Prelude.{◌≡◌, ◌≤◌, length, take};
 ghost use Rattle.rules.specs.Numbers.{max_nodes};
 ghost use Rattle.permutation.specs.Once.{each_once};

@@ -2,6 +2,8 @@
 // refusals: how many checks and queries answer as the list says, every place of the path with them.
 //
 // A column has 64 places of one array: columns of numbers in the order of the list, at 64 times theirs; the weights in an array of their own.
+#![tactic(auto)]
+
 ghost use Rattle.std.specs.Prelude.{◌≤◌};
 
 use fixed::{part, wide_part};

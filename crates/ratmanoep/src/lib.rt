@@ -1,6 +1,8 @@
 // The library that a gateway links: document 01's calls and the record program under names of one prefix.
 //
 // Each function is one call of the one that it is named after, whose contract it has. None asks anything of its caller.
+#![tactic(auto)]
+
 ghost use Rattle.std.specs.Prelude.{[], ◌∷◌, ◌≡◌, length};
 ghost use Rattle.rules.specs.Refusals.{check_refusal};
 ghost use Rattle.rules.specs.Build.{build};

@@ -1,5 +1,7 @@
 // The inputs of the repository's fixed list of the record program (oracle/fixed/make-records), which holds the oracle's lines: for how many
 // the same bytes are written.
+#![tactic(auto)]
+
 ghost use Rattle.std.specs.Prelude.{◌≤◌};
 
 use fixed::byte_part;

@@ -1,4 +1,6 @@
 // The gateway's record program: standard input to its end, the lines to standard output.
+#![tactic(auto)]
+
 use libc::{STDIN_FILENO, STDOUT_FILENO};
 
 // The first bytes of what was written; there are never more than the buffer holds.

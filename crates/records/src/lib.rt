@@ -1,4 +1,6 @@
 // Records: the bytes 6E 74, a kind, and a body of little-endian numbers. Each kind has one length.
+#![tactic(auto)]
+
 ghost use Rattle.std.specs.Prelude.{◌≡◌, ◌+◌, ◌^◌, ◌≤◌, ◌<◌, get_or, drop};
 ghost use Rattle.rules.specs.Program.{record_length, u16_at, u32_at};
 ghost use Rattle.records.specs.Kinds.{whole_kind, Below};

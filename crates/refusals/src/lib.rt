@@ -1,4 +1,6 @@
 // Refusals 1 to 9 of a build, before any work.
+#![tactic(auto)]
+
 ghost use Rattle.std.specs.Prelude.{Bool, ◌||◌, List, [], ◌∷◌, ◌≡◌, ℕ, ◌≤◌};
 ghost use Rattle.rules.specs.Columns.{Hierarchy};
 ghost use Rattle.rules.specs.Refusals.{short, build_scratch};

@@ -1,4 +1,6 @@
 // Forward and backward turns, one after the other, until both heaps are empty.
+#![tactic(auto)]
+
 ghost use Rattle.turns.specs.Turning.{of};
 ghost use Rattle.rounds.specs.Rounds.{Rounding, Rounded, Running, Ran};
 

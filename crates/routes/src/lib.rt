@@ -1,1 +1,3 @@
 // The demands of document 01 are statements about the definitions: specs/ states them, proofs/ proves them.
+
+#![tactic(auto)]

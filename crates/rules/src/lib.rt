@@ -1,5 +1,7 @@
 // The numbers of document 01, as code. Their definitions stand in specs/Numbers.antt.
 
+#![tactic(auto)]
+
 pub const MAX_NODES: usize = 1024;
 
 pub const MAX_LINKS: usize = 16384;

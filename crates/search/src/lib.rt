@@ -1,2 +1,4 @@
 // The witness search of contraction hierarchies.
+#![tactic(auto)]
+
 pub mod witness_search;

@@ -3,6 +3,8 @@
 // One pass over the used entries; nothing lent is written, and no number is trusted before it was compared: entries are looked at
 // only once both tables' starts are known to lie within their columns. That no neighbour stands twice among a node's entries (request 7)
 // is seen in the same pass, by a mark for each node in the frame: no scratch, and no entry is looked at again.
+#![tactic(auto)]
+
 ghost use Rattle.std.specs.Prelude.{◌≡◌, ℕ, suc, ◌+◌, ◌≤◌, ◌<◌, length, get_or};
 ghost use Rattle.rules.specs.Lists.{Decides};
 ghost use Rattle.rules.specs.Columns.{entry};

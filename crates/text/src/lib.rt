@@ -1,5 +1,7 @@
 // The lines of the record program, written into a lent buffer from a place on, as far as there is room. Each function returns the place after
 // what it wrote.
+#![tactic(auto)]
+
 ghost use Rattle.std.specs.Prelude.{[], ◌∷◌, ◌++◌};
 ghost use Rattle.rules.specs.Lists.{flat_map};
 ghost use Rattle.rules.specs.Program.{decimal, line, word_too_long, space, bad_record, refused_line, counts_line, route_line};

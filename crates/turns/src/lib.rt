@@ -1,5 +1,7 @@
 // One turn of a query: a side settles one node, or finds that there is none to settle. One function serves both sides, its own table
 // and the other handed in accordingly.
+#![tactic(auto)]
+
 ghost use Rattle.std.specs.Prelude.{◌≡◌, ◌+◌, ◌*◌, ◌^◌, ◌<◌, ◌≤◌, ltb, length};
 ghost use Rattle.rules.specs.Numbers.{no_weight};
 ghost use Rattle.rules.specs.Query.{improve};

@@ -6,6 +6,8 @@
 //
 // Columns: f of the forward table, b of the backward one; b bases, m neighbours, i and o the two numbers. A call hands on no column
 // that it does not read: each would be copied at every opening.
+#![tactic(auto)]
+
 ghost use Rattle.rules.specs.Columns.{forward, backward};
 ghost use Rattle.unpacking.specs.Written.{shown, Unpacking, Wrote};
 
