@@ -236,12 +236,12 @@ module _ (pool limit v : ℕ) (g k : List Arc) (e : contract_node pool limit v g
 
     -- Along a path: from a node other than v the contracted graph follows for no more, and at v an arc that led there is
     -- taken along, until the next arc leads out again.
-    along : {a b w : ℕ} → Path (Arcs g) b a w → (b ≡ v → ⊥) →
+    along : {b a w : ℕ} → Path (Arcs g) b a w → (b ≡ v → ⊥) →
         ((a ≡ v → ⊥) → Within (Arcs k) a b w) ×
         (a ≡ v → (u x : ℕ) → Arcs g u v x → (u ≡ v → ⊥) → Within (Arcs k) u b (x + w))
     along (stay same none) offb =
         (λ off. within_more (within_stay same) (omega arith), λ at. absurd (offb (sym same ∙ at)))
-    along {a} {b} {w} (step c x y arc sum p) offb =
+    along {b} {a} {w} (step c x y arc sum p) offb =
         let rest = along p offb in (
           λ off.
               elim (ℕ_discrete c v) [

@@ -115,7 +115,7 @@ towards_join E backward a b c v w us vs p q = leads_told refl refl (add_comm v w
 abbrev pub Solid : ℕ → List Link → Edges
 Solid n ls u v w = Linked ls u v w × (1 ≤ w) × (u < n) × (v < n)
 
-pub solid_path : {n : ℕ} {ls : List Link} {a b w : ℕ} → Path (Solid n ls) b a w → Path (Linked ls) b a w
+pub solid_path : {n : ℕ} {ls : List Link} {b a w : ℕ} → Path (Solid n ls) b a w → Path (Linked ls) b a w
 solid_path (stay same none) = stay same none
 solid_path (step c x y e sum r) = step c x y e.0 sum (solid_path r)
 

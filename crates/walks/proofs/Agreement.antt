@@ -31,7 +31,7 @@ module _ {n : ℕ} {h k : Hierarchy} (agree : Agree n h k) where
         let same = agree.entries s e (place_used n h rules s u below e at) in
         (e, rw (places_same u below) at, ap (λ x. x.neighbour) same ∙ neighbour, ap (λ x. x.weight) same ∙ weight)
 
-    path_kept : {a b w : ℕ} → a < n → Path (Entries h s) b a w → Path (Entries k s) b a w
+    path_kept : {b a w : ℕ} → a < n → Path (Entries h s) b a w → Path (Entries k s) b a w
     path_kept below (stay same none) = stay same none
     path_kept {a = a} below (step c x y e sum p) =
         let higher : c < n = rw e.2 at (place_entry n h rules s a below e.0 e.1).neighbour_below in

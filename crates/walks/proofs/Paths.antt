@@ -30,7 +30,7 @@ module _ {E : Edges} where
   pub edge_within : {a b w : ℕ} → E a b w → Within E a b w
   edge_within {w = w} e = (w, edge_path e, omega arith)
 
-  pub join : {a b c v w : ℕ} → Path E b a v → Path E c b w → Path E c a (v + w)
+  pub join : {b a c v w : ℕ} → Path E b a v → Path E c b w → Path E c a (v + w)
   join (stay same none) q = said q same (omega arith)
   join {v = v} {w = w} (step d x y e sum p) q = step {w = v + w} d x (y + w) e (omega arith) (join p q)
 
@@ -44,9 +44,9 @@ module _ {E : Edges} where
   within_join p q = (p.0 + q.0, join p.1 q.1, omega (arith, p.2, q.2))
 
   -- a path that leads on has a last edge, with a path before it, for no more
-  pub last_edge : {a b w : ℕ} → Path E b a w → (a ≡ b → ⊥) → (u : ℕ) × (x : ℕ) × (y : ℕ) × Path E u a y × E u b x × (y + x ≤ w)
+  pub last_edge : {b a w : ℕ} → Path E b a w → (a ≡ b → ⊥) → (u : ℕ) × (x : ℕ) × (y : ℕ) × Path E u a y × E u b x × (y + x ≤ w)
   last_edge (stay same none) apart = absurd (apart same)
-  last_edge {a} {b} {w} (step c x y e sum p) apart =
+  last_edge {b} {a} {w} (step c x y e sum p) apart =
       elim (ℕ_discrete c b) [
         | yes here ↦ (a, x, 0, stay refl refl, rw here at e, omega arith)
         | no on ↦
@@ -55,11 +55,11 @@ module _ {E : Edges} where
       ]
 
   -- where no edge leads to a node, no path leaves others for it
-  pub never_at : {v a b w : ℕ} → ((u c x : ℕ) → E u c x → c ≡ v → ⊥) → Path E b a w → (a ≡ v → ⊥) → b ≡ v → ⊥
+  pub never_at : {v b a w : ℕ} → ((u c x : ℕ) → E u c x → c ≡ v → ⊥) → Path E b a w → (a ≡ v → ⊥) → b ≡ v → ⊥
   never_at none_to (stay same none) away at = away (same ∙ at)
   never_at none_to (step d x y e sum p) away at = never_at none_to p (none_to _ d x e) at
 
-pub lighter_path : {E F : Edges} {a b w : ℕ} → Lighter E F → Path E b a w → Within F a b w
+pub lighter_path : {E F : Edges} {b a w : ℕ} → Lighter E F → Path E b a w → Within F a b w
 lighter_path l (stay same none) = (0, stay same refl, omega arith)
 lighter_path {a = a} l (step d x y e sum p) =
     let f = l a d x e in

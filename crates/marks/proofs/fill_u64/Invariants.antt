@@ -1,0 +1,17 @@
+-- The invariant: the first i places are filled.
+use mathlib.Core.Path.{◌≡◌, refl}
+use Prim.Native.Nat.{◌-◌, ◌≤◌}
+use native.Mathlib.Omega.{arith}
+use lib.ListN.{length, replicate, length-set}
+use Rattle.rules.specs.Numbers.{no_weight}
+use Rattle.rules.specs.Lists.{over}
+use Rattle.marks.proofs.Filling.{none_filled, one_filled, all_filled}
+use Rattle.marks.proofs.fill_u64.Given as goal
+
+abbrev pub invariant-loop-i : goal.invariant-loop-i
+invariant-loop-i l =
+    (l.count ≡ length l.initial.column) × (length l.column ≡ length l.initial.column) × (l.i ≤ l.count) × (l.column ≡ over l.initial.column (replicate l.i no_weight))
+
+abbrev pub decreases-loop-i : goal.decreases-loop-i
+decreases-loop-i l =
+    l.count - l.i

@@ -1,0 +1,29 @@
+-- `find_max_weight` meets its contract: the answer at once, by label or by stamp, or that of a run.
+use mathlib.Core.Path.{refl, sym, ◌∙◌}
+use native.Mathlib.Omega.{arith}
+use borrow.Author.Rules.{rules}
+use Rattle.search.proofs.Offers.{label_room}
+use Rattle.search.proofs.Answers.{answered_labelled, answered_settled, answered_run}
+use Rattle.search.proofs.witness_search.find_max_weight.Goals as goal
+
+pub returns-then-weight-weight_limit : goal.returns-then-weight-weight_limit
+returns-then-weight-weight_limit c = λ w s x. answered_labelled c.args.search x _ c.get_current_weight-weight.ensures c.if-weight-weight_limit.true
+
+pub returns-then-is_settled : goal.returns-then-is_settled
+returns-then-is_settled c =
+    λ w s x.
+    answered_settled c.args.search x _ c.get_current_weight-weight.ensures
+    (sym c.is_settled.ensures ∙ c.if-is_settled.true)
+
+pub get_current_weight-requires : goal.get_current_weight-requires
+get_current_weight-requires c =
+    let x = c.requires.2 in
+    omega (arith, label_room x.ready.searching _ x.inside, c.run-end.auto.labels)
+
+pub returns : goal.returns
+returns c =
+    λ w s x.
+    answered_run c.args.search x _ c.run-end.result c.get_current_weight-weight.ensures c.if-weight-weight_limit.false
+    (sym c.is_settled.ensures ∙ c.if-is_settled.false)
+    (c.run-end.ensures w s x)
+    c.get_current_weight.ensures

@@ -1,0 +1,18 @@
+-- `settle` meets its contract: v is marked, and the chain of its out-arcs relaxed.
+use mathlib.Core.Path.{◌∙◌}
+use lib.ListN.{length-set}
+use borrow.Author.Rules.{rules}
+use Rattle.rules.specs.Search.{mark_settled}
+use Rattle.search.specs.Labels.{put_settled}
+use Rattle.search.proofs.Nodes.{settled_row, settling, settled}
+use Rattle.search.proofs.witness_search.settle.Goals as goal
+
+pub relax-requires : goal.relax-requires
+unfolding put_settled
+relax-requires c =
+    let r = c.requires in
+    (settled_row r.2, mark_settled _ r.1, settling r.2)
+
+pub returns : goal.returns
+unfolding put_settled
+returns c = λ w s x. settled x _ (c.relax.ensures (settled_row x) (mark_settled _ s) (settling x))
