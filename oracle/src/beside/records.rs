@@ -9,7 +9,7 @@ use crate::random::{below, graph_of, links, shuffled};
 use crate::records::{lines, Record, MOST_BYTES, MOST_LINKS, MOST_NODES, TAG};
 use std::fmt::{Debug, Formatter, Result};
 
-/// So many places hold the lines of any input: `output-bound` of crates/routes/specs/Records.antt.
+/// So many places hold the lines of any input: `output_bound` of crates/routes/specs/Records.antt.
 pub const ENOUGH: usize = 17 * (MOST_BYTES + 1);
 
 /// What the buffer holds before: no line has this byte.
