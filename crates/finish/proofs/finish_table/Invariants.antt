@@ -1,0 +1,20 @@
+-- The invariant: the first e entries are finished.
+use mathlib.Core.Path.{◌≡◌, refl}
+use Prim.Native.Nat.{◌-◌, ◌≤◌}
+use native.Mathlib.Omega.{arith}
+use lib.ListN.{length, length-set}
+use Rattle.rules.specs.Columns.{Side}
+use Rattle.rules.specs.Refusals.{BuildCall}
+use Rattle.rules.specs.Build.{Building}
+use Rattle.finish.specs.Promises.{Finishing}
+use Rattle.finish.proofs.Finishing.{SoFar, none_finished, entry_at_hand, one_finished, all_finished}
+use Rattle.finish.proofs.finish_table.Given as goal
+
+abbrev pub invariant-loop-e : goal.invariant-loop-e
+invariant-loop-e l =
+    (length l.ins ≡ length l.initial.ins) × (length l.outs ≡ length l.initial.outs) × (l.e ≤ l.count) ×
+    ((k : BuildCall) (b : Building) (s : Side) → Finishing k b s l.count l.ranks l.fwd_starts l.fwd_neighbours l.bwd_starts l.bwd_neighbours l.tails l.heads l.initial.ins l.initial.outs → SoFar b s l.initial.ins l.initial.outs l.ins l.outs l.e)
+
+abbrev pub decreases-loop-e : goal.decreases-loop-e
+decreases-loop-e l =
+    l.count - l.e

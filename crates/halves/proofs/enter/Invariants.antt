@@ -1,0 +1,14 @@
+-- The invariant: the ends that are left, from here, are all of them from the start.
+use Prim.Native.Nat.{◌-◌}
+use native.Mathlib.Omega.{arith}
+use borrow.Author.Rules.{rules}
+use lib.ListN.{length}
+use Rattle.halves.specs.Promises.{Entering}
+use Rattle.halves.proofs.Entering.{Going, going_first, offering, going_on, enters}
+use Rattle.halves.proofs.enter.Given as goal
+
+abbrev pub invariant-loop-k : goal.invariant-loop-k
+invariant-loop-k l = (given : Entering l.nodes l.offsets l.initial.labels l.initial.heap) × Going l.nodes l.offsets l.initial.labels l.initial.heap l.base given l.labels l.heap l.len l.k
+
+abbrev pub decreases-loop-k : goal.decreases-loop-k
+decreases-loop-k l = length l.nodes - l.k

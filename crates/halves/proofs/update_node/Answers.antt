@@ -1,0 +1,35 @@
+-- Where the arms of the branch meet, the stamp is `kept_stamp`.
+use mathlib.Core.Path.{◌≡◌, ap}
+use mathlib.Core.Logic.{⊎_elim}
+use Prim.Native.Nat.{◌+◌, ◌*◌}
+use native.Mathlib.Omega.{arith}
+use lib.ListN.{set, length-set}
+use borrow.Author.Rules.{rules}
+use borrow.Author.Tests.{lt-ltb, le-ltb}
+use Rattle.halves.specs.Labels.{kept_stamp, put_label}
+use Rattle.halves.proofs.update_node.Goals as goal
+use Rattle.halves.proofs.update_node.Goals.{Joined-stamp-base}
+
+joined : (c : Joined-stamp-base) →
+    let a = c.args in
+    c.if-stamp-base.stamp ≡ kept_stamp a.labels.now a.base a.v
+unfolding kept_stamp
+joined c =
+    ⊎_elim (λ w. rw (lt-ltb _ _ w.0.taken, kept_stamp) w.1) (λ w. rw (le-ltb _ _ w.0.left, kept_stamp) w.1)
+    c.if-stamp-base.branch
+
+pub bounds-labels-v-3 : goal.bounds-labels-v-3
+bounds-labels-v-3 c = simp length-set (omega arith)
+
+pub bounds-labels-v-4 : goal.bounds-labels-v-4
+bounds-labels-v-4 c = simp length-set (omega arith)
+
+pub bounds-labels-v-5 : goal.bounds-labels-v-5
+bounds-labels-v-5 c = simp length-set (omega arith)
+
+pub returns : goal.returns
+unfolding put_label
+returns c =
+    let a = c.args in
+    let l = a.label in
+    ap (set (set (set (set a.labels.now (4 * a.v) l.weight) (4 * a.v + 1) l.parent) (4 * a.v + 2) l.via) (4 * a.v + 3)) (joined (goal.at.returns c).Joined-stamp-base)

@@ -1,0 +1,27 @@
+-- The invariant: of every graph and search that stood, what is left of the out list and what was done come to the whole.
+use mathlib.Core.List.{List}
+use mathlib.Core.Path.{◌≡◌, refl, ◌∙◌}
+use Prim.Native.Nat.{ℕ, ◌+◌, ◌*◌, ◌≤◌, ◌<◌}
+use native.Mathlib.Omega.{arith}
+use borrow.Author.Rules.{rules}
+use lib.ListN.{length, get_or}
+use Rattle.rules.specs.Numbers.{max_weight}
+use Rattle.rules.specs.Graph.{Arc}
+use Rattle.rules.specs.Search.{Search}
+use Rattle.lists.specs.Walks.{column, steps}
+use Rattle.search.specs.Searching.{lent}
+use Rattle.search.proofs.Walks.{left_fit, left_room}
+use Rattle.node_contractor.specs.Promises.{Leaving}
+use Rattle.node_contractor.proofs.Pairs.{steps_came, steps_refused}
+use Rattle.node_contractor.proofs.OutArcs.{OutsLeft, outs_all, outs_left, outs_pairing, outs_sum, outs_on, outs_nearer, outs_stop, outs_done}
+use Rattle.node_contractor.proofs.handle_out_arcs.Given as goal
+
+abbrev pub invariant-loop-place : goal.invariant-loop-place
+invariant-loop-place l =
+    (length l.arcs ≡ length l.initial.arcs) × (length l.weights ≡ length l.initial.weights) × (length l.nodes ≡ length l.initial.nodes) × (length l.labels ≡ length l.initial.labels) × (length l.heap ≡ length l.initial.heap) ×
+    ((n : ℕ) (g : List Arc) (a : Arc) (s : Search) (p : Leaving (lent l.initial.arcs l.initial.weights l.initial.nodes l.initial.labels l.initial.heap) l.pool l.initial.work l.v l.tail l.weight n g a s) →
+    OutsLeft p.midst.standing.stands l.initial.work l.work (lent l.arcs l.weights l.nodes l.labels l.heap) l.v l.limit l.place a s)
+
+abbrev pub decreases-loop-place : goal.decreases-loop-place
+decreases-loop-place l =
+    steps (column l.arcs 3) (length l.arcs) l.place
