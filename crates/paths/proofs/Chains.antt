@@ -107,7 +107,7 @@ climb_same {labels = labels} {base = base} {v = v} (suc f) a =
     (λ t. climb_end f (bare labels base) v (rw (is_own a) at t) ∙ sym (climb_end f (x a) v t))
     (λ t.
     climb_on f (bare labels base) v (rw (is_own a) at t) ∙
-    (ap (λ (c : List ℕ). c ++ ((own a).via ∷ [])) (climb_same f (up a t)) ∙ sym (rw (is_own a) at (climb_on f (x a) v t))))
+    (ap (λ (c : List ℕ). c ++ ((own a).via ∷ [])) (climb_same {v = (own a).parent} f (up a t)) ∙ sym (rw (is_own a) at (climb_on f (x a) v t))))
 
 module _ {n : ℕ} {h g : Hierarchy} {s : Side} {labels : List ℕ} {base v : ℕ} (a : Ascent n h g s labels base v) where
   steps_are : steps labels base v ≡ length (climb n (x a) v)

@@ -8,15 +8,17 @@ use borrow.Author.Rules.{rules}
 use borrow.Author.Tests.{lt-ltb, le-ltb}
 use Rattle.halves.specs.Labels.{kept_stamp, put_label}
 use Rattle.halves.proofs.update_node.Goals as goal
-use Rattle.halves.proofs.update_node.Goals.{Joined-stamp-base}
+use Rattle.halves.proofs.update_node.Goals.{Joined-stamp-base, then-stamp-base, else-stamp-base}
 
 joined : (c : Joined-stamp-base) →
     let a = c.args in
     c.if-stamp-base.stamp ≡ kept_stamp a.labels.now a.base a.v
 unfolding kept_stamp
 joined c =
-    ⊎_elim (λ w. rw (lt-ltb _ _ w.0.taken, kept_stamp) w.1) (λ w. rw (le-ltb _ _ w.0.left, kept_stamp) w.1)
-    c.if-stamp-base.branch
+    elim c.if-stamp-base.branch [
+      | then-stamp-base w ↦ rw (lt-ltb _ _ w.if-stamp-base.true, kept_stamp) w.stamp-is
+      | else-stamp-base w ↦ rw (le-ltb _ _ w.if-stamp-base.false, kept_stamp) w.stamp-is
+    ]
 
 pub bounds-labels-v-3 : goal.bounds-labels-v-3
 bounds-labels-v-3 c = simp length-set (omega arith)

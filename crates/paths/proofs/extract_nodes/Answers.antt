@@ -1,0 +1,27 @@
+-- The forward half, then the backward half.
+use native.Mathlib.Omega.{arith}
+use borrow.Author.Rules.{rules}
+use Rattle.unpacking.proofs.Opened.{first_within}
+use Rattle.paths.proofs.Chains.{walk_within, walk_put}
+use Rattle.paths.proofs.extract_nodes.Goals as goal
+
+pub climb_fwd-first-requires : goal.climb_fwd-first-requires
+climb_fwd-first-requires c =
+    let p = c.requires in
+    record { n = p.n; h = p.h; ascent = p.fwd; room = p.fwd_room; fits = omega (arith, p.fits) }
+
+pub overflow_sub-limit : goal.overflow_sub-limit
+overflow_sub-limit c = first_within (c.climb_fwd-first.ensures.put c.requires.fwd)
+
+pub climb_bwd-then-requires : goal.climb_bwd-then-requires
+climb_bwd-then-requires c =
+    let p = c.requires in
+    record { n = p.n; h = p.h; ascent = p.bwd; room = p.bwd_room; fits = omega (arith, p.fits, first_within (c.climb_fwd-first.ensures.put p.fwd)) }
+
+pub overflow_add-result : goal.overflow_add-result
+overflow_add-result c =
+    let p = c.requires in
+    omega (arith, walk_within (c.climb_fwd-first.ensures.put p.fwd) (c.climb_bwd-then.ensures.put p.bwd) p.fits)
+
+pub returns : goal.returns
+returns c = record { put = λ f b. walk_put (c.climb_fwd-first.ensures.put f) (c.climb_bwd-then.ensures.put b) }
