@@ -14,9 +14,18 @@ pool_inside-inside-requires c = few (scratch (goal.at.pool_inside-inside-require
 pub contraction-ranked-requires : goal.contraction-ranked-requires
 contraction-ranked-requires c = (_, _, accepting (scratch (goal.at.contraction-ranked-requires c).Start) c.requires c.pool_inside-inside.ensures)
 
+-- what closes the tables, from what the contraction left
 pub close-requires : goal.close-requires
-close-requires c = (_, _, _, closing_columns (scratch (goal.at.close-requires c).Start) c.requires c.pool_inside-inside.ensures (c.contraction-ranked.ensures _ _ (accepting (scratch (goal.at.close-requires c).Start) c.requires c.pool_inside-inside.ensures)) c.contraction-ranked.auto.fwd_starts c.contraction-ranked.auto.fwd_bases c.contraction-ranked.auto.fwd_neighbours c.contraction-ranked.auto.fwd_weights c.contraction-ranked.auto.fwd_ins c.contraction-ranked.auto.bwd_starts c.contraction-ranked.auto.bwd_bases c.contraction-ranked.auto.bwd_neighbours c.contraction-ranked.auto.bwd_weights c.contraction-ranked.auto.bwd_ins)
+close-requires c =
+    let s = scratch (goal.at.close-requires c).Start in
+    let ranked = c.contraction-ranked in
+    let here = c.pool_inside-inside.ensures in
+    (_, _, _, closing_columns s c.requires here (ranked.ensures _ _ (accepting s c.requires here)) ranked.auto.fwd_starts ranked.auto.fwd_bases ranked.auto.fwd_neighbours ranked.auto.fwd_weights ranked.auto.fwd_ins ranked.auto.bwd_starts ranked.auto.bwd_bases ranked.auto.bwd_neighbours ranked.auto.bwd_weights ranked.auto.bwd_ins)
 
 pub returns : goal.returns
-unfolding close-requires
-returns c = c.close.ensures _ _ _ (close-requires c c.close.lifetimes).3 ∙ as_built (scratch (goal.at.returns c).Start) c.requires c.pool_inside-inside.ensures
+returns c =
+    let s = scratch (goal.at.returns c).Start in
+    let ranked = c.contraction-ranked in
+    let here = c.pool_inside-inside.ensures in
+    c.close.ensures _ _ _ (closing_columns s c.requires here (ranked.ensures _ _ (accepting s c.requires here)) ranked.auto.fwd_starts ranked.auto.fwd_bases ranked.auto.fwd_neighbours ranked.auto.fwd_weights ranked.auto.fwd_ins ranked.auto.bwd_starts ranked.auto.bwd_bases ranked.auto.bwd_neighbours ranked.auto.bwd_weights ranked.auto.bwd_ins)
+    ∙ as_built s c.requires here
