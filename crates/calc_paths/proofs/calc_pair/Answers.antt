@@ -1,0 +1,16 @@
+-- Row 22 is the only one that a pair of the call may meet; a pair that does not is the route of its query.
+use borrow.Author.Rules.{rules}
+use Rattle.calc_paths.proofs.Pairs.{pair_source, pair_target, paired, routing}
+use Rattle.calc_paths.proofs.calc_pair.Goals as goal
+
+pub returns-then-n-source : goal.returns-then-n-source
+returns-then-n-source c = pair_source _ _ _ _ _ _ c.requires.checked c.requires.places c.requires.earlier c.if-n-source.true
+
+pub returns-then-n-target : goal.returns-then-n-target
+returns-then-n-target c = pair_target _ _ _ _ _ _ c.requires.checked c.requires.places c.requires.earlier c.if-n-source.false c.if-n-target.true
+
+pub route-requires : goal.route-requires
+route-requires c = routing _ _ _ _ _ _ _ _ _ _ c.requires c.if-n-source.false c.if-n-target.false
+
+pub returns : goal.returns
+returns c = paired _ _ _ _ _ _ c.requires.checked c.requires.places c.if-n-source.false c.if-n-target.false ((search rules)) c.route.ensures

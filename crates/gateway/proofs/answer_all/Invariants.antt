@@ -1,0 +1,15 @@
+-- Each turn writes a line and goes a record on.
+use mathlib.Core.Path.{◌∙◌}
+use Prim.Native.Nat.{◌-◌}
+use native.Mathlib.Omega.{arith}
+use lib.ListN.{length}
+use borrow.Author.Rules.{rules}
+use Rattle.tables.specs.Lent.{columns, lent}
+use Rattle.gateway.proofs.Saying.{Said, says_nothing, ends, bad_fits, ends_badly, line_fits, says_more}
+use Rattle.gateway.proofs.answer_all.Given as goal
+
+abbrev pub invariant-loop-at : goal.invariant-loop-at
+invariant-loop-at l = Said l.input l.initial.out l.at-2 l.end-2 l.n (lent l.ranks (columns l.fs l.fb l.fm l.fw l.fi l.fo) (columns l.bs l.bb l.bm l.bw l.bi l.bo)) l.at l.end l.out
+
+abbrev pub decreases-loop-at : goal.decreases-loop-at
+decreases-loop-at l = length l.input - l.at

@@ -1,0 +1,27 @@
+-- Scratch is as long as its formula, so the call is the program's.
+use mathlib.Core.Path.{sym}
+use native.Mathlib.Omega.{arith}
+use Rattle.gateway.proofs.Asking.{front_long, asked}
+use borrow.Author.Rules.{rules}
+use Rattle.gateway.proofs.ask.Goals as goal
+
+pub slice_bounds-fill_path-end-5 : goal.slice_bounds-fill_path-end-5
+slice_bounds-fill_path-end-5 c = front_long _ 128 (omega (arith, c.requires.0.few))
+
+pub slice_bounds-fill_path-end-6 : goal.slice_bounds-fill_path-end-6
+slice_bounds-fill_path-end-6 c = front_long _ 128 (omega (arith, c.requires.0.few))
+
+pub slice_bounds-fill_path-end-7 : goal.slice_bounds-fill_path-end-7
+slice_bounds-fill_path-end-7 c = front_long _ 1024 (omega (arith, c.requires.0.fwd_most))
+
+pub slice_bounds-fill_path-end-8 : goal.slice_bounds-fill_path-end-8
+slice_bounds-fill_path-end-8 c = front_long _ 1024 (omega (arith, c.requires.0.bwd_most))
+
+pub returns : goal.returns
+returns c =
+    asked _ _ _ _ _ _ _ _ _ c.requires.1
+    (sym (front_long _ 128 (omega (arith, c.requires.0.few))))
+    (sym (front_long _ 128 (omega (arith, c.requires.0.few))))
+    (sym (front_long _ 1024 (omega (arith, c.requires.0.fwd_most))))
+    (sym (front_long _ 1024 (omega (arith, c.requires.0.bwd_most))))
+    _ _ c.fill_path-count.ensures
