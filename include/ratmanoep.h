@@ -1,7 +1,7 @@
 /*
  * ratmanoep.h - least-weight routes over a network of at most 1,024 nodes, by contraction hierarchies.
  *
- * C99, and C++. Link with target/staticlib/libratmanoep.a (`rt staticlib ratmanoep` proves the code and writes it; x86-64 Linux).
+ * C99, and C++. Link with crates/ratmanoep/out/libratmanoep.a (`rt lib` in crates/ratmanoep proves the code and writes it; x86-64 Linux).
  *
  * The library allocates nothing and keeps nothing between calls: all memory is lent by the caller, so calls on different memory may
  * run at the same time. Of the C library it uses memset alone. Any numbers may be handed in: every call ends, and bad input is met

@@ -1,4 +1,4 @@
-//! Links the proved library: libratmanoep.a in the folder RATMANOEP_LIB, or in target/staticlib of the repository.
+//! Links the proved library: libratmanoep.a in the folder RATMANOEP_LIB, or in crates/ratmanoep/out of the repository.
 
 use std::env;
 use std::path::PathBuf;
@@ -9,7 +9,7 @@ const ARCHIVE: &str = "libratmanoep.a";
 fn folder() -> PathBuf {
     match env::var_os("RATMANOEP_LIB") {
         Some(folder) => PathBuf::from(folder),
-        None => PathBuf::from(env::var_os("CARGO_MANIFEST_DIR").unwrap_or_default()).join("../target/staticlib"),
+        None => PathBuf::from(env::var_os("CARGO_MANIFEST_DIR").unwrap_or_default()).join("../crates/ratmanoep/out"),
     }
 }
 
@@ -28,7 +28,7 @@ fn main() {
     let archive = folder().join(ARCHIVE);
     if !archive.is_file() {
         stop(&format!(
-            "{} is missing; `rt staticlib ratmanoep` makes it, or RATMANOEP_LIB names its folder",
+            "{} is missing; `rt lib` in crates/ratmanoep makes it, or RATMANOEP_LIB names its folder",
             archive.display()
         ));
     }

@@ -26,7 +26,7 @@ use Rattle.walks.proofs.Paths.{Lighter, lighter_path}
 use Rattle.build_laws.specs.Runs.{rank_of}
 use Rattle.build_laws.proofs.Runs.{LevelEdges}
 use Rattle.build_laws.proofs.Starts.{Contracted}
-use Rattle.build_laws.proofs.BuiltTables.{neighbours_distinct, tables_rule, links, At, within_rank, used_is, level_is, level_count, ranked_below, node_below, finish_keeps, opens, entry_ends, found_entry, begin_is, rank_is}
+use Rattle.build_laws.proofs.BuiltTables.{neighbours_distinct, tables_rule, At, within_rank, used_is, level_is, level_count, ranked_below, node_below, finish_keeps, opens, entry_ends, found_entry, begin_is, rank_is}
 
 -- an entry with a number is a shortcut
 numbered : (e : Entry) → (e.in_number ≡ invalid → ⊥) → is_shortcut e ≡ true

@@ -7,7 +7,7 @@ use native.Mathlib.Omega.{arith}
 use lib.ListN.{length}
 use Rattle.rules.proofs.Ranges.{Differ, distinct_decides}
 use Rattle.rules.specs.Numbers.{max_link_weight}
-use Rattle.rules.specs.Columns.{Link, link_list, forward, backward, room}
+use Rattle.rules.specs.Columns.{Link, link_list, room}
 use Rattle.rules.specs.Refusals.{BuildCall, build_refusal}
 use Rattle.rules.specs.Graph.{Arc, outs, ins}
 use Rattle.rules.specs.Search.{init}

@@ -24,7 +24,7 @@ use Rattle.lists.specs.Walks.{Walk}
 use Rattle.lists.proofs.Walks.{first_out}
 use Rattle.graph.specs.Stands.{Stands}
 use Rattle.graph.proofs.Reading.{own_walk, outs_walk, own_arcs, reads_outs, reads_ins}
-use Rattle.search.specs.Searching.{Lent, lent}
+use Rattle.search.specs.Searching.{Lent}
 use Rattle.node_contractor.specs.declared.Work.{Work}
 use Rattle.node_contractor.specs.declared.Contracted.{Contracted}
 use Rattle.node_contractor.specs.declared.Contracted.TheVariants.{Went as Contracted-as-Went, Refused as Contracted-as-Refused}

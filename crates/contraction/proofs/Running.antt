@@ -8,7 +8,7 @@ use borrow.Author.Tests.{le-leb, lt-leb}
 use lib.ListN.{length, get_or, drop, length-append, drop_of_length-le}
 use lib.Seq.{drop-cons}
 use Rattle.rules.specs.Lists.{over}
-use Rattle.rules.specs.Columns.{link_list, forward, backward}
+use Rattle.rules.specs.Columns.{link_list}
 use Rattle.rules.specs.Refusals.{BuildCall}
 use Rattle.rules.specs.Build.{Step, refused, and_then, in_pool, from_links, graph_of, raws, Building, rank_step, rank_steps, contraction}
 use Rattle.rules.specs.Lists.{flat_map}

@@ -3,7 +3,7 @@ use mathlib.Core.Path.{◌≡◌, refl, sym, ◌∙◌, ap}
 use mathlib.Core.Logic.{inl, inr}
 use mathlib.Core.Bool.{true, false, ◌||◌}
 use mathlib.Core.List.{List, [], ◌∷◌, ◌++◌}
-use Prim.Native.Nat.{ℕ, zero, suc, ◌+◌, ◌*◌, ◌-◌, ◌≤◌}
+use Prim.Native.Nat.{ℕ, zero, suc, ◌*◌, ◌-◌, ◌≤◌}
 use native.Mathlib.Omega.{arith}
 use native.Mathlib.Nat.{mul-le-mul_left}
 use native.Mathlib.Decide.{ℕ_discrete}
@@ -22,7 +22,7 @@ use Rattle.rules.specs.Accepted.{AcceptedBuild}
 use Rattle.build_laws.proofs.Pools.{contraction_same}
 use Rattle.input_graph.specs.Given.{links}
 use Rattle.input_graph.proofs.Accepted.{accepted_between}
-use Rattle.search.specs.Searching.{Lent, lent}
+use Rattle.search.specs.Searching.{Lent}
 use Rattle.marks.specs.Tables.{table_of, hierarchy}
 use Rattle.contraction.specs.declared.Ranked.{Ranked}
 use Rattle.entries.specs.Laid.{part, four}

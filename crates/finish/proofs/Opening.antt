@@ -16,7 +16,6 @@ use Rattle.rules.proofs.Members.{in_map}
 use Rattle.rules.proofs.Prefixes.{prefix, prefix_most, sizes, flat_length, in_flat, over_at, over_length, sums_length}
 use Rattle.build_laws.specs.Runs.{rank_of, Opened as FromCentre}
 use Rattle.build_laws.proofs.BuiltTables.{Kept, finish_keeps, finish_plain, finish_open, entry_ends, level_count, level_is, node_below, starts_at, ranks_length, ranks_at}
-use Rattle.finish.specs.declared.Numbers.{Numbers}
 use Rattle.finish.specs.Promises.{Seekable, Sought, Whole, Columns, raw_tail, raw_head, Opening, Opened}
 use Rattle.finish.proofs.Seeking.{done, ranked, start_is, sought_place}
 

@@ -24,8 +24,7 @@ use Rattle.rules.proofs.Prefixes.{prefix, locate, sizes, flat_length, over_at, o
 use Rattle.build_laws.specs.Runs.{rank_of}
 use Rattle.build_laws.proofs.Starts.{Contracted, contraction_went}
 use Rattle.build_laws.proofs.BuiltTables.{no_raw, no_level, level_count, level_at, rank_at, starts_at, begin_is, starts_next, raw_at, before_end, found, ranks_length, ranks_at}
-use Rattle.finish.specs.declared.Numbers.{Numbers}
-use Rattle.finish.specs.Promises.{Sought, Whole, Columns, Opened, Inverse}
+use Rattle.finish.specs.Promises.{Sought, Whole, Inverse}
 
 module _ {c : BuildCall} {b : Building} (w : Whole c b) where
   pub done : Contracted c w.ok w.weights b

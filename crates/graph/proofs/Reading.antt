@@ -11,7 +11,7 @@ use Rattle.rules.specs.Graph.{Arc, leaves, enters, outs, ins}
 use Rattle.rules.proofs.Members.{in_keep}
 use Rattle.rules.proofs.Lists.{keep_same, keep_length, keep_map}
 use Rattle.graph.specs.declared.preparation_graph.Pool.{Pool}
-use Rattle.lists.specs.Memory.{Memory, at, first, arc_at, ends_at, touches}
+use Rattle.lists.specs.Memory.{Memory, first, arc_at, ends_at, touches}
 use Rattle.graph.specs.Stands.{Stands}
 use Rattle.lists.specs.Walks.{Walk, Reads}
 use Rattle.graph.proofs.Places.{on_sides, place_below, valid, roomy, live_at_most}

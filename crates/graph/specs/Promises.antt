@@ -1,5 +1,5 @@
 -- What the functions ask and promise. `m` and `w` are the slices at entry, `m'` and `w'` at exit.
-use Rattle.std.specs.Prelude.{List, [], ◌∷◌, ◌++◌, Bool, true, false, not, ◌≡◌, ℕ, ◌+◌, ◌*◌, ◌<◌, ◌≤◌, length}
+use Rattle.std.specs.Prelude.{List, [], ◌∷◌, ◌++◌, Bool, true, false, not, ◌≡◌, ℕ, ◌*◌, ◌<◌, ◌≤◌, length}
 use Rattle.rules.specs.Numbers.{invalid}
 use Rattle.rules.specs.Lists.{any, keep}
 use Rattle.rules.specs.Graph.{Arc, joins, add_or_reduce}

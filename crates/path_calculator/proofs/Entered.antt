@@ -7,7 +7,7 @@ use native.Mathlib.Omega.{arith}
 use lib.ListN.{length, get_or, drop}
 use Rattle.rules.specs.Numbers.{max_ends}
 use Rattle.rules.specs.Lists.{In}
-use Rattle.rules.specs.Columns.{Hierarchy, forward, backward, opposite, table, begin}
+use Rattle.rules.specs.Columns.{Hierarchy, opposite, table, begin}
 use Rattle.rules.specs.TableRules.{used}
 use Rattle.rules.specs.Refusals.{QueryCall}
 use Rattle.rules.specs.Query.{Best, untouched, zip_ends, end_list, enter, first_step, rounds, query_fuel, entered, searched}

@@ -20,7 +20,7 @@ use Rattle.rules.proofs.Cases.{on_test, not_both, neither}
 use Rattle.rules.proofs.Members.{all_each}
 use Rattle.rules.proofs.Rows.{not_met}
 use Rattle.query_laws.specs.Accepted.{EndsRules, Accepted}
-use Rattle.query_laws.specs.Sound.{weight_at, listed, Sound, Met, no_best, Both}
+use Rattle.query_laws.specs.Sound.{weight_at, Sound, Met, no_best, Both}
 use Rattle.query_laws.proofs.State.{first_sound, enter_unsettled}
 use Rattle.query_laws.proofs.Turns.{improve_cases, rounds_keep, rounds_finish}
 

@@ -9,10 +9,10 @@ use native.Mathlib.Numerals.{add-one}
 use lib.Dec.{eqb, ltb, leb}
 use lib.ListN.{length, get_or}
 use borrow.Author.Tests.{ltb-true, lt-ltb, leb-false, lt-leb}
-use Rattle.rules.specs.Lists.{Decides, all, any}
+use Rattle.rules.specs.Lists.{Decides, all}
 use Rattle.rules.specs.Columns.{Links, Link, zip_links, link_list, Table, Hierarchy, Ends, begin}
 use Rattle.rules.specs.TableRules.{used, TableRules}
-use Rattle.rules.specs.Refusals.{Row, row, first_met, short, BuildCall, build_scratch, names_none_above, loop, ascending, columns_fit, table_short, lent_short, graph_rows, order_rows, build_refusal, QueryCall, query_scratch, ends_fit, offset_fits, check_rows, end_rows, check_refusal, query_refusal}
+use Rattle.rules.specs.Refusals.{Row, first_met, short, BuildCall, build_scratch, names_none_above, loop, ascending, columns_fit, table_short, lent_short, graph_rows, order_rows, build_refusal, QueryCall, query_scratch, ends_fit, offset_fits, check_rows, end_rows, check_refusal, query_refusal}
 use Rattle.rules.specs.FirstDemand.{Sentence, ◌says◌, Lowest, At, IsLink, ALink, Ascending, Short, TableShort, build_table, EndsUnfit, OffsetUnfit, query_table}
 use Rattle.rules.proofs.Cases.{on_test}
 use Rattle.rules.proofs.Decides.{ltb_decides, eqb_decides, or_decides, decides_as, denied}

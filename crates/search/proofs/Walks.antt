@@ -10,7 +10,7 @@ use Rattle.rules.specs.Numbers.{invalid, max_weight}
 use Rattle.rules.specs.Lists.{In, keep}
 use Rattle.rules.specs.Graph.{Arc, leaves, enters, outs, ins}
 use Rattle.rules.proofs.Members.{in_keep, in_map}
-use Rattle.lists.specs.Memory.{memory, at, arc_at, touches}
+use Rattle.lists.specs.Memory.{memory, arc_at, touches}
 use Rattle.lists.specs.Walks.{column, Reads, steps}
 use Rattle.rules.proofs.Lists.{keep_length}
 use Rattle.graph.proofs.Standing.{within_pool}

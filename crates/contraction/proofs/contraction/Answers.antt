@@ -1,10 +1,8 @@
 -- The links' graph is taken in, labels are cleared, and then the ranks follow.
-use mathlib.Core.Path.{◌∙◌}
 use Rattle.input_graph.specs.Given.{links}
 use Rattle.contraction.specs.Ranks.{given}
 use Rattle.contraction.proofs.Ranking.{stopped}
 use Rattle.contraction.proofs.Running.{no_room, starting, came_as, from_links_went}
-use borrow.Author.Rules.{rules}
 use Rattle.contraction.proofs.contraction.Goals as goal
 
 pub from_input_graph-added-requires : goal.from_input_graph-added-requires

@@ -1,8 +1,6 @@
 -- The lists are counted and laid, and the node is contracted.
-use mathlib.Core.Path.{refl}
 use native.Mathlib.Omega.{arith}
 use Rattle.contraction.proofs.Ranking.{small_forward, small_backward, few_places, nodes_room, walk_out, walk_in, forward_within, backward_within, full_forward, full_backward, layable_forward, layable_backward, contractible, step_came, step_stopped}
-use borrow.Author.Rules.{rules}
 use Rattle.contraction.proofs.rank_step.Goals as goal
 
 pub overflow_mul-first_out : goal.overflow_mul-first_out

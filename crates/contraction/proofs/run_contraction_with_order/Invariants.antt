@@ -1,17 +1,13 @@
 -- The invariant: what was done and what is left of the order come to the whole.
 use mathlib.Core.List.{List}
-use mathlib.Core.Path.{refl, ◌∙◌}
 use Prim.Native.Nat.{ℕ, ◌-◌, ◌≤◌}
-use native.Mathlib.Omega.{arith}
-use borrow.Author.Rules.{rules}
 use lib.ListN.{length}
 use Rattle.rules.specs.Columns.{Links, Hierarchy}
 use Rattle.search.specs.Searching.{lent}
 use Rattle.entries.specs.Laid.{part, four}
 use Rattle.contraction.specs.Ranks.{given, parts}
 use Rattle.contraction.specs.Promises.{Starting}
-use Rattle.contraction.proofs.Ranking.{stopped}
-use Rattle.contraction.proofs.Running.{SameLengths, Running, begins, stepping, gives_up, goes_on, is_done}
+use Rattle.contraction.proofs.Running.{SameLengths, Running}
 use Rattle.contraction.proofs.run_contraction_with_order.Given as goal
 
 abbrev pub invariant-loop-r : goal.invariant-loop-r

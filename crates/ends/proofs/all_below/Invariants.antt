@@ -1,13 +1,9 @@
 -- The invariant: what is left of the column decides as all of it.
-use mathlib.Core.Path.{◌≡◌, refl}
+use mathlib.Core.Path.{◌≡◌}
 use Prim.Native.Nat.{◌-◌}
-use native.Mathlib.Omega.{arith}
-use borrow.Author.Rules.{rules}
-use borrow.Author.Tests.{lt-ltb, le-ltb}
 use lib.Dec.{ltb}
 use lib.ListN.{length, drop}
 use Rattle.rules.specs.Lists.{all}
-use Rattle.ends.proofs.Steps.{fails_here, holds_here, all_hold}
 use Rattle.ends.proofs.all_below.Given as goal
 
 abbrev pub invariant-loop-k : goal.invariant-loop-k

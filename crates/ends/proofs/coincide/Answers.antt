@@ -1,7 +1,6 @@
 -- Each return is a case of `coincide`.
 use mathlib.Core.Path.{◌∙◌}
 use native.Mathlib.Omega.{arith}
-use borrow.Author.Rules.{rules}
 use Rattle.ends.proofs.Steps.{apart, source_out, target_out, both_count}
 use Rattle.ends.proofs.coincide.Goals as goal
 

@@ -1,12 +1,6 @@
 -- The invariant: the targets that are left, from here, are all of them from the start.
-use mathlib.Core.Path.{◌≡◌, refl}
-use Prim.Native.Nat.{◌-◌}
+use mathlib.Core.Path.{refl}
 use native.Mathlib.Omega.{arith}
-use borrow.Author.Rules.{rules}
-use lib.ListN.{length, drop}
-use Rattle.rules.specs.Query.{zip_ends, coincide_all}
-use Rattle.turns.specs.Turning.{of}
-use Rattle.ends.specs.Given.{end}
 use Rattle.ends.proofs.Steps.{next_target, last_target}
 use Rattle.ends.proofs.coincide_all.Goals as goal
 

@@ -1,12 +1,9 @@
 -- The invariant: the sources that are left, from here, are all of them from the start.
-use mathlib.Core.Path.{◌≡◌, refl}
+use mathlib.Core.Path.{◌≡◌}
 use Prim.Native.Nat.{◌-◌}
-use native.Mathlib.Omega.{arith}
-use borrow.Author.Rules.{rules}
 use lib.ListN.{length, drop}
 use Rattle.rules.specs.Query.{zip_ends, first_step}
 use Rattle.turns.specs.Turning.{of}
-use Rattle.ends.proofs.Steps.{next_source, last_source}
 use Rattle.ends.proofs.first_step.Given as goal
 
 abbrev pub invariant-loop-k : goal.invariant-loop-k

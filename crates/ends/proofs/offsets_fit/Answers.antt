@@ -1,11 +1,5 @@
 -- The invariant: what is left of the column decides as all of it.
-use mathlib.Core.Path.{◌≡◌, refl, sym, ◌∙◌}
-use Prim.Native.Nat.{◌-◌}
-use borrow.Author.Rules.{rules}
-use borrow.Author.Tests.{not-true, not-false}
-use lib.ListN.{length, drop}
-use Rattle.rules.specs.Lists.{all}
-use Rattle.rules.specs.Refusals.{offset_fits}
+use mathlib.Core.Path.{refl, sym, ◌∙◌}
 use Rattle.ends.proofs.Steps.{fails_here, holds_here, all_hold}
 use Rattle.ends.proofs.offsets_fit.Goals as goal
 

@@ -1,6 +1,5 @@
 -- The columns are lent from the rank's start onward, and come back with the list written there.
 use Rattle.entries.proofs.Laying.{writable_onward, rank_laid}
-use borrow.Author.Rules.{rules}
 use Rattle.entries.proofs.lay_rank.Goals as goal
 
 pub write_entries-requires : goal.write_entries-requires

@@ -1,9 +1,7 @@
 -- The invariant: what was counted and what is left come to the whole.
-use mathlib.Core.List.{List}
-use Prim.Native.Nat.{ℕ, ◌+◌, ◌*◌, ◌≤◌, ◌<◌}
+use Prim.Native.Nat.{◌+◌, ◌*◌, ◌≤◌, ◌<◌}
 use native.Mathlib.Omega.{arith}
 use lib.ListN.{length}
-use Rattle.lists.specs.Walks.{column, Walk, steps}
 use Rattle.lists.proofs.Walks.{walk_room, walk_nearer}
 use Rattle.entries.proofs.Writing.{Counted, one_counted, all_counted}
 use Rattle.entries.proofs.list_length.Goals as goal

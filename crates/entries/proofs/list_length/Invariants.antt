@@ -1,11 +1,9 @@
 -- The invariant: what was counted and what is left come to the whole.
 use mathlib.Core.List.{List}
-use Prim.Native.Nat.{ℕ, ◌+◌, ◌*◌, ◌≤◌, ◌<◌}
-use native.Mathlib.Omega.{arith}
+use Prim.Native.Nat.{ℕ, ◌+◌}
 use lib.ListN.{length}
 use Rattle.lists.specs.Walks.{column, Walk, steps}
-use Rattle.lists.proofs.Walks.{walk_room, walk_nearer}
-use Rattle.entries.proofs.Writing.{Counted, one_counted, all_counted}
+use Rattle.entries.proofs.Writing.{Counted}
 use Rattle.entries.proofs.list_length.Given as goal
 
 abbrev pub invariant-loop-place : goal.invariant-loop-place

@@ -1,15 +1,11 @@
 -- The invariant: what was written and what is left come to the whole.
-use mathlib.Core.List.{List}
-use mathlib.Core.Path.{◌≡◌, refl}
-use Prim.Native.Nat.{ℕ, ◌+◌, ◌*◌, ◌≤◌, ◌<◌}
+use mathlib.Core.Path.{refl}
+use Prim.Native.Nat.{◌+◌, ◌*◌, ◌≤◌, ◌<◌}
 use native.Mathlib.Omega.{arith}
 use lib.ListN.{length, length-set}
-use Rattle.rules.specs.Graph.{Arc}
 use Rattle.lists.specs.Memory.{memory}
-use Rattle.lists.specs.Walks.{column, steps}
 use Rattle.lists.proofs.Walks.{reads_room, reads_nearer}
 use Rattle.entries.specs.Laid.{four}
-use Rattle.entries.specs.Promises.{Writable}
 use Rattle.entries.proofs.Writing.{Written, none_written, one_written, room_left, all_written}
 use Rattle.entries.proofs.write_entries.Goals as goal
 use Rattle.entries.proofs.write_entries.Goals.{At-loop-place, In-loop-place}

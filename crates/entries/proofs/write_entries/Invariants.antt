@@ -1,16 +1,14 @@
 -- The invariant: what was written and what is left come to the whole.
 use mathlib.Core.List.{List}
-use mathlib.Core.Path.{◌≡◌, refl}
-use Prim.Native.Nat.{ℕ, ◌+◌, ◌*◌, ◌≤◌, ◌<◌}
-use native.Mathlib.Omega.{arith}
-use lib.ListN.{length, length-set}
+use mathlib.Core.Path.{◌≡◌}
+use Prim.Native.Nat.{ℕ, ◌+◌}
+use lib.ListN.{length}
 use Rattle.rules.specs.Graph.{Arc}
 use Rattle.lists.specs.Memory.{memory}
 use Rattle.lists.specs.Walks.{column, steps}
-use Rattle.lists.proofs.Walks.{reads_room, reads_nearer}
 use Rattle.entries.specs.Laid.{four}
 use Rattle.entries.specs.Promises.{Writable}
-use Rattle.entries.proofs.Writing.{Written, none_written, one_written, room_left, all_written}
+use Rattle.entries.proofs.Writing.{Written}
 use Rattle.entries.proofs.write_entries.Given as goal
 
 abbrev pub invariant-loop-place : goal.invariant-loop-place

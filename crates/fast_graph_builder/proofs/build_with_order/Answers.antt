@@ -12,7 +12,6 @@ use Rattle.contraction.specs.Ranks.{given, call}
 use Rattle.refusals.specs.Measures.{Refuses, lent_short_by, uneven_by}
 use Rattle.fast_graph_builder.specs.Promises.{lengths}
 use Rattle.fast_graph_builder.proofs.Passing.{nodes_few, turned_away, too_short, let_in, let_in_built, by_lengths}
-use borrow.Author.Rules.{rules}
 use Rattle.fast_graph_builder.proofs.build_with_order.Goals as goal
 use Rattle.fast_graph_builder.proofs.build_with_order.Goals.{Start}
 
@@ -31,9 +30,9 @@ asked s =
 row_nine : (s : Start) {r : Bool} →
     let a = s.args in
     r ≡ lent_short_by a.n a.pool (length a.ranks.now)
-        (uneven_by a.n (length a.fwd_starts.now) (length a.fwd_bases.now) (length a.fwd_neighbours.now) (length a.fwd_weights.now) (length a.fwd_ins.now) (length a.fwd_outs.now))
-        (uneven_by a.n (length a.bwd_starts.now) (length a.bwd_bases.now) (length a.bwd_neighbours.now) (length a.bwd_weights.now) (length a.bwd_ins.now) (length a.bwd_outs.now))
-        (lengths a.arcs.now a.weights.now a.nodes.now a.labels.now a.heap.now) →
+    (uneven_by a.n (length a.fwd_starts.now) (length a.fwd_bases.now) (length a.fwd_neighbours.now) (length a.fwd_weights.now) (length a.fwd_ins.now) (length a.fwd_outs.now))
+    (uneven_by a.n (length a.bwd_starts.now) (length a.bwd_bases.now) (length a.bwd_neighbours.now) (length a.bwd_weights.now) (length a.bwd_ins.now) (length a.bwd_outs.now))
+    (lengths a.arcs.now a.weights.now a.nodes.now a.labels.now a.heap.now) →
     lent_short (asked s) ≡ r
 row_nine s e =
     let a = s.args in

@@ -1,7 +1,5 @@
 -- The columns after rule 5, or after a refusal, are the definition's.
-use mathlib.Core.Path.{refl}
 use Rattle.fast_graph_builder.proofs.Closing.{ending, closed_went, closed_refused}
-use borrow.Author.Rules.{rules}
 use Rattle.fast_graph_builder.proofs.close.Goals as goal
 
 pub finish_contraction-requires : goal.finish_contraction-requires

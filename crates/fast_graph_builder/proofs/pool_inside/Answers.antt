@@ -3,7 +3,6 @@ use mathlib.Core.Logic.{inl, inr}
 use mathlib.Core.Path.{refl}
 use native.Mathlib.Omega.{arith}
 use Rattle.fast_graph_builder.proofs.Passing.{most_arcs, no_arcs}
-use borrow.Author.Rules.{rules}
 use Rattle.fast_graph_builder.proofs.pool_inside.Goals as goal
 
 pub returns-then-n-eq0 : goal.returns-then-n-eq0

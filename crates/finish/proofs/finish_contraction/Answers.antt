@@ -2,7 +2,6 @@
 use native.Mathlib.Omega.{arith}
 use Rattle.rules.specs.Columns.{forward, backward}
 use Rattle.finish.proofs.Ending.{ending_inverse, small_fwd, small_bwd, fwd_start_there, bwd_start_there, finishing_forward, finishing_backward, ended}
-use borrow.Author.Rules.{rules}
 use Rattle.finish.proofs.finish_contraction.Goals as goal
 
 pub write_ranks-requires : goal.write_ranks-requires

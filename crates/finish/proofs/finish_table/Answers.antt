@@ -1,13 +1,8 @@
 -- The invariant: the first e entries are finished.
-use mathlib.Core.Path.{◌≡◌, refl}
-use Prim.Native.Nat.{◌-◌, ◌≤◌}
+use mathlib.Core.Path.{refl}
 use native.Mathlib.Omega.{arith}
-use lib.ListN.{length, length-set}
-use Rattle.rules.specs.Columns.{Side}
-use Rattle.rules.specs.Refusals.{BuildCall}
-use Rattle.rules.specs.Build.{Building}
-use Rattle.finish.specs.Promises.{Finishing}
-use Rattle.finish.proofs.Finishing.{SoFar, none_finished, entry_at_hand, one_finished, all_finished}
+use lib.ListN.{length-set}
+use Rattle.finish.proofs.Finishing.{none_finished, entry_at_hand, one_finished, all_finished}
 use Rattle.finish.proofs.finish_table.Goals as goal
 
 pub loop-e-init : goal.loop-e-init

@@ -1,13 +1,12 @@
 -- The invariant: the first e entries are finished.
-use mathlib.Core.Path.{◌≡◌, refl}
+use mathlib.Core.Path.{◌≡◌}
 use Prim.Native.Nat.{◌-◌, ◌≤◌}
-use native.Mathlib.Omega.{arith}
-use lib.ListN.{length, length-set}
+use lib.ListN.{length}
 use Rattle.rules.specs.Columns.{Side}
 use Rattle.rules.specs.Refusals.{BuildCall}
 use Rattle.rules.specs.Build.{Building}
 use Rattle.finish.specs.Promises.{Finishing}
-use Rattle.finish.proofs.Finishing.{SoFar, none_finished, entry_at_hand, one_finished, all_finished}
+use Rattle.finish.proofs.Finishing.{SoFar}
 use Rattle.finish.proofs.finish_table.Given as goal
 
 abbrev pub invariant-loop-e : goal.invariant-loop-e

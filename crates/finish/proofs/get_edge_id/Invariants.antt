@@ -1,9 +1,7 @@
 -- The invariant: none before e is the one.
-use mathlib.Core.Path.{◌≡◌, refl}
+use mathlib.Core.Path.{◌≡◌}
 use Prim.Native.Nat.{ℕ, ◌+◌, ◌-◌, ◌^◌, ◌≤◌, ◌<◌}
-use native.Mathlib.Omega.{arith}
 use lib.ListN.{get_or}
-use Rattle.finish.proofs.Seeking.{one_passed}
 use Rattle.finish.proofs.get_edge_id.Given as goal
 
 abbrev pub invariant-loop-e : goal.invariant-loop-e

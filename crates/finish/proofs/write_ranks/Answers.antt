@@ -1,10 +1,8 @@
 -- The invariant: the first r nodes of the order have their ranks.
-use mathlib.Core.Path.{◌≡◌, refl}
-use Prim.Native.Nat.{ℕ, ◌-◌, ◌≤◌}
+use mathlib.Core.Path.{refl}
 use native.Mathlib.Omega.{arith}
-use lib.ListN.{length, length-set}
-use Rattle.finish.specs.Promises.{Inverse}
-use Rattle.finish.proofs.Seeking.{Inverted, none_inverted, node_there, one_inverted, all_inverted}
+use lib.ListN.{length-set}
+use Rattle.finish.proofs.Seeking.{none_inverted, node_there, one_inverted, all_inverted}
 use Rattle.finish.proofs.write_ranks.Goals as goal
 
 pub loop-r-init : goal.loop-r-init

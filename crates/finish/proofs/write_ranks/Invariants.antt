@@ -1,10 +1,9 @@
 -- The invariant: the first r nodes of the order have their ranks.
-use mathlib.Core.Path.{◌≡◌, refl}
+use mathlib.Core.Path.{◌≡◌}
 use Prim.Native.Nat.{ℕ, ◌-◌, ◌≤◌}
-use native.Mathlib.Omega.{arith}
-use lib.ListN.{length, length-set}
+use lib.ListN.{length}
 use Rattle.finish.specs.Promises.{Inverse}
-use Rattle.finish.proofs.Seeking.{Inverted, none_inverted, node_there, one_inverted, all_inverted}
+use Rattle.finish.proofs.Seeking.{Inverted}
 use Rattle.finish.proofs.write_ranks.Given as goal
 
 abbrev pub invariant-loop-r : goal.invariant-loop-r

@@ -2,7 +2,6 @@
 use mathlib.Core.Bool.{or-false}
 use mathlib.Core.Path.{sym}
 use native.Mathlib.Nat.{le_of_eq}
-use borrow.Author.Rules.{rules}
 use borrow.Author.Tests.{le-ltb, eq-eqb, ne_eqb}
 use Rattle.rules.specs.Heap.{leaves_first}
 use Rattle.heap.specs.Items.{item}

@@ -1,6 +1,5 @@
 -- `heap::load` meets its contract: the two reads are `item`'s own.
 use mathlib.Core.Path.{refl}
-use borrow.Author.Rules.{rules}
 use Rattle.heap.specs.Items.{item}
 use Rattle.heap.proofs.load.Goals as goal
 

@@ -1,7 +1,6 @@
 -- `heap::pop` meets its contract: the gap that the first item leaves sinks, and the last item fills it.
 use Prim.Native.Nat.{◌-◌}
 use native.Mathlib.Omega.{arith}
-use borrow.Author.Rules.{rules}
 use Rattle.heap.proofs.Slice.{leaf_above}
 use Rattle.heap.proofs.Ends.{gap_at_front, popped, popped_only}
 use Rattle.heap.proofs.pop.Goals as goal

@@ -1,7 +1,6 @@
 -- `heap::push` meets its contract: a gap at the end, where nothing is below, is filled.
 use Prim.Native.Nat.{◌+◌}
 use native.Mathlib.Omega.{arith}
-use borrow.Author.Rules.{rules}
 use Rattle.heap.proofs.Slice.{leaf_above}
 use Rattle.heap.proofs.Ends.{gap_at_end, pushed}
 use Rattle.heap.proofs.push.Goals as goal

@@ -4,9 +4,8 @@ use mathlib.Core.Path.{sym, ◌∙◌}
 use Prim.Native.Nat.{◌*◌, ◌<◌, ◌≤◌}
 use native.Mathlib.Omega.{arith}
 use lib.ListN.{length}
-use Rattle.heap.specs.Items.{of, item, items}
+use Rattle.heap.specs.Items.{of, item}
 use Rattle.heap.specs.Shape.{parent, First}
-use Rattle.heap.specs.Gaps.{Above, Moved}
 use Rattle.heap.proofs.Order.{first_total}
 use Rattle.heap.proofs.Slice.{moved_not, gap_inside, rises, still_above, fills}
 use Rattle.heap.proofs.rise.Goals as goal

@@ -1,15 +1,8 @@
 -- `heap::rise` meets its contract. The loop's invariant: the gap has moved from `i` to `gap`, and `x` may leave before all that
 -- is below. The measure is the gap's place.
-use mathlib.Core.Logic.{⊎_elim}
-use mathlib.Core.Path.{sym, ◌∙◌}
-use Prim.Native.Nat.{◌*◌, ◌<◌, ◌≤◌}
-use native.Mathlib.Omega.{arith}
-use lib.ListN.{length}
-use Rattle.heap.specs.Items.{of, item, items}
-use Rattle.heap.specs.Shape.{parent, First}
+use Prim.Native.Nat.{◌<◌}
+use Rattle.heap.specs.Items.{of, items}
 use Rattle.heap.specs.Gaps.{Above, Moved}
-use Rattle.heap.proofs.Order.{first_total}
-use Rattle.heap.proofs.Slice.{moved_not, gap_inside, rises, still_above, fills}
 use Rattle.heap.proofs.rise.Given as goal
 
 abbrev pub invariant-loop-gap : goal.invariant-loop-gap

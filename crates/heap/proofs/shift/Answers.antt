@@ -1,5 +1,4 @@
 -- `heap::shift` meets its contract: what is loaded is what is stored.
-use borrow.Author.Rules.{rules}
 use Rattle.heap.proofs.shift.Goals as goal
 
 pub returns : goal.returns

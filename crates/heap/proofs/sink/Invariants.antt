@@ -1,10 +1,7 @@
 -- `heap::sink` meets its contract. The loop's invariant: the gap has moved from the root to `gap`.
 -- The measure is what is left of the items.
-use Prim.Native.Nat.{◌*◌, ◌-◌, ◌<◌, ◌≤◌}
-use native.Mathlib.Omega.{arith}
-use lib.ListN.{length}
+use Prim.Native.Nat.{◌-◌, ◌<◌}
 use Rattle.heap.specs.Gaps.{Moved}
-use Rattle.heap.proofs.Slice.{moved_not, gap_inside, leads_inside, only_child, sinks}
 use Rattle.heap.proofs.sink.Given as goal
 
 abbrev pub invariant-loop-gap : goal.invariant-loop-gap

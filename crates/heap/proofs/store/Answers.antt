@@ -1,7 +1,6 @@
 -- `heap::store` meets its contract: the two stores are `put`'s own.
 use mathlib.Core.Path.{refl}
 use native.Mathlib.Omega.{arith}
-use borrow.Author.Rules.{rules}
 use lib.ListN.{length-set}
 use Rattle.heap.specs.Gaps.{put}
 use Rattle.heap.proofs.store.Goals as goal

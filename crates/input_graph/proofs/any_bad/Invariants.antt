@@ -1,13 +1,10 @@
 -- The invariant: what stands from link i on decides as all links do.
-use mathlib.Core.Path.{◌≡◌, refl, sym, ◌∙◌}
+use mathlib.Core.Path.{◌≡◌}
 use Prim.Native.Nat.{◌-◌, ◌≤◌}
-use native.Mathlib.Omega.{arith}
-use borrow.Author.Rules.{rules}
 use lib.ListN.{length, drop}
 use Rattle.rules.specs.Lists.{any}
 use Rattle.rules.specs.Columns.{link_list}
 use Rattle.input_graph.specs.Given.{links, Even, bad_in}
-use Rattle.input_graph.proofs.Columns.{found_here, not_here, none_there}
 use Rattle.input_graph.proofs.any_bad.Given as goal
 
 abbrev pub invariant-loop-i : goal.invariant-loop-i

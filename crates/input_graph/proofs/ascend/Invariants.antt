@@ -1,14 +1,10 @@
 -- The invariant: what stands from link i - 1 on decides as all links do.
-use mathlib.Core.Path.{◌≡◌, refl, sym, ◌∙◌}
+use mathlib.Core.Path.{◌≡◌}
 use Prim.Native.Nat.{◌+◌, ◌-◌, ◌≤◌}
-use native.Mathlib.Omega.{arith}
-use borrow.Author.Rules.{rules}
-use borrow.Author.Tests.{not-true, not-false}
 use lib.ListN.{length, drop}
 use Rattle.rules.specs.Columns.{link_list}
 use Rattle.rules.specs.Refusals.{ascending}
 use Rattle.input_graph.specs.Given.{links, Even}
-use Rattle.input_graph.proofs.Columns.{falls_here, rises_here, rises_on}
 use Rattle.input_graph.proofs.ascend.Given as goal
 
 abbrev pub invariant-loop-i : goal.invariant-loop-i

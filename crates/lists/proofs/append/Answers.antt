@@ -1,10 +1,8 @@
 -- `append` meets its contract: its stores are those of the definition, with `follow` between them.
-use mathlib.Core.Path.{ap, ◌∙◌}
+use mathlib.Core.Path.{ap}
 use lib.ListN.{length-set}
 use Rattle.lists.specs.Memory.{Memory}
 use Rattle.lists.specs.Steps.{append, set_last}
-use borrow.Author.Rules.{rules}
-use Rattle.lists.proofs.follow.Reads as follow-reads
 use Rattle.lists.proofs.append.Goals as goal
 
 pub follow-requires : goal.follow-requires

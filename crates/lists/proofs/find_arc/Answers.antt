@@ -1,15 +1,11 @@
 -- `find_arc` meets its contract. The loop's invariant: what the walk from `at` on comes upon first is what it would come upon from the
 -- start. The measure is what is left of the walk.
 use mathlib.Core.Path.{refl}
-use mathlib.Core.Bool.{Bool}
-use mathlib.Core.List.{List}
-use Prim.Native.Nat.{ℕ, ◌+◌, ◌*◌, ◌≤◌}
+use Prim.Native.Nat.{◌+◌, ◌*◌, ◌≤◌}
 use native.Mathlib.Omega.{arith}
-use lib.Dec.{eqb}
 use lib.ListN.{length}
 use borrow.Author.Tests.{eq-eqb, ne_eqb}
-use Rattle.rules.specs.Numbers.{invalid}
-use Rattle.lists.specs.Walks.{column, Walk, found, steps}
+use Rattle.lists.specs.Walks.{found}
 use Rattle.lists.proofs.Walks.{walk_room, walk_nearer}
 use Rattle.lists.proofs.Walking.{Seeking, sought_none, sought_here, seek_on}
 use Rattle.lists.proofs.find_arc.Goals as goal

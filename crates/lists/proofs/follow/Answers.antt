@@ -4,7 +4,6 @@ use native.Mathlib.Omega.{arith}
 use borrow.Author.Tests.{eq-eqb, ne_eqb}
 use Rattle.rules.specs.Numbers.{invalid}
 use Rattle.lists.specs.Steps.{follow}
-use borrow.Author.Rules.{rules}
 use Rattle.lists.proofs.follow.Goals as goal
 
 pub bounds-arcs-before : goal.bounds-arcs-before

@@ -1,13 +1,11 @@
 -- `predecessor` meets its contract. The loop's invariant: from `at` on the walk goes through the place, and what stands before it,
 -- `before` where it is at `at`, is what stands before it from the start. The measure is what is left of the walk.
 use mathlib.Core.Path.{refl}
-use mathlib.Core.List.{List}
-use Prim.Native.Nat.{ℕ, ◌+◌, ◌*◌, ◌≤◌}
+use Prim.Native.Nat.{◌+◌, ◌*◌, ◌≤◌}
 use native.Mathlib.Omega.{arith}
 use lib.ListN.{length}
 use Rattle.rules.specs.Numbers.{invalid}
-use Rattle.rules.specs.Lists.{In}
-use Rattle.lists.specs.Walks.{column, Walk, steps, before as before_in}
+use Rattle.lists.specs.Walks.{before as before_in}
 use Rattle.lists.proofs.Walks.{walk_room, walk_nearer}
 use Rattle.lists.proofs.Walking.{Ahead, ahead_valid, ahead_here, ahead_on}
 use Rattle.lists.proofs.predecessor.Goals as goal

@@ -1,15 +1,12 @@
 -- `predecessor` meets its contract. The loop's invariant: from `at` on the walk goes through the place, and what stands before it,
 -- `before` where it is at `at`, is what stands before it from the start. The measure is what is left of the walk.
-use mathlib.Core.Path.{refl}
 use mathlib.Core.List.{List}
-use Prim.Native.Nat.{ℕ, ◌+◌, ◌*◌, ◌≤◌}
-use native.Mathlib.Omega.{arith}
+use Prim.Native.Nat.{ℕ, ◌+◌, ◌≤◌}
 use lib.ListN.{length}
 use Rattle.rules.specs.Numbers.{invalid}
 use Rattle.rules.specs.Lists.{In}
 use Rattle.lists.specs.Walks.{column, Walk, steps, before as before_in}
-use Rattle.lists.proofs.Walks.{walk_room, walk_nearer}
-use Rattle.lists.proofs.Walking.{Ahead, ahead_valid, ahead_here, ahead_on}
+use Rattle.lists.proofs.Walking.{Ahead}
 use Rattle.lists.proofs.predecessor.Given as goal
 
 abbrev pub invariant-loop-at : goal.invariant-loop-at

@@ -6,9 +6,6 @@ use native.Mathlib.Omega.{arith}
 use Rattle.lists.specs.Memory.{Memory, memory}
 use Rattle.lists.specs.Steps.{append, put}
 use Rattle.lists.proofs.Stores.{Beside, beside_append, open_long, open_beside}
-use borrow.Author.Rules.{rules}
-use Rattle.lists.proofs.append.Reads as append-reads
-use Rattle.lists.proofs.write_arc.Reads as write-arc-reads
 use Rattle.lists.proofs.put_arc.Goals as goal
 
 pub append-requires : goal.append-requires

@@ -1,14 +1,11 @@
 -- `unlink` meets its contract: its stores are those of the definition, with `follow` before them.
 use mathlib.Core.Path.{ap}
 use Prim.Native.Nat.{◌+◌}
-use lib.ListN.{length-set}
 use borrow.Author.Tests.{eq-eqb, ne_eqb}
 use Rattle.rules.specs.Numbers.{invalid}
 use Rattle.lists.specs.Memory.{Memory}
 use Rattle.lists.specs.Walks.{column}
 use Rattle.lists.specs.Steps.{unlink, set_last}
-use borrow.Author.Rules.{rules}
-use Rattle.lists.proofs.follow.Reads as follow-reads
 use Rattle.lists.proofs.unlink.Goals as goal
 
 pub returns-then-next : goal.returns-then-next

@@ -4,7 +4,6 @@ use native.Mathlib.Nat.{add-zero}
 use native.Mathlib.Omega.{arith}
 use lib.ListN.{length-set}
 use Rattle.lists.specs.Steps.{write}
-use borrow.Author.Rules.{rules}
 use Rattle.lists.proofs.write_arc.Goals as goal
 
 pub bounds-arcs-at-2 : goal.bounds-arcs-at-2

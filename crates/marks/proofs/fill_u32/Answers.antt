@@ -1,10 +1,8 @@
 -- The invariant: the first i places are filled.
-use mathlib.Core.Path.{◌≡◌, refl}
-use Prim.Native.Nat.{◌-◌, ◌≤◌}
+use mathlib.Core.Path.{refl}
 use native.Mathlib.Omega.{arith}
-use lib.ListN.{length, replicate, length-set}
+use lib.ListN.{length-set}
 use Rattle.rules.specs.Numbers.{invalid}
-use Rattle.rules.specs.Lists.{over}
 use Rattle.marks.proofs.Filling.{none_filled, one_filled, all_filled}
 use Rattle.marks.proofs.fill_u32.Goals as goal
 

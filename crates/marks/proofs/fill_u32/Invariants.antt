@@ -1,11 +1,9 @@
 -- The invariant: the first i places are filled.
-use mathlib.Core.Path.{◌≡◌, refl}
+use mathlib.Core.Path.{◌≡◌}
 use Prim.Native.Nat.{◌-◌, ◌≤◌}
-use native.Mathlib.Omega.{arith}
-use lib.ListN.{length, replicate, length-set}
+use lib.ListN.{length, replicate}
 use Rattle.rules.specs.Numbers.{invalid}
 use Rattle.rules.specs.Lists.{over}
-use Rattle.marks.proofs.Filling.{none_filled, one_filled, all_filled}
 use Rattle.marks.proofs.fill_u32.Given as goal
 
 abbrev pub invariant-loop-i : goal.invariant-loop-i

@@ -1,6 +1,5 @@
 -- The ranks are filled, and each table is marked.
 use Rattle.marks.proofs.Filling.{all_marked}
-use borrow.Author.Rules.{rules}
 use Rattle.marks.proofs.mark_all.Goals as goal
 
 pub returns : goal.returns

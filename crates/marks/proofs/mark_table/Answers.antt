@@ -1,6 +1,5 @@
 -- Each column is filled.
 use Rattle.marks.proofs.Filling.{table_marked}
-use borrow.Author.Rules.{rules}
 use Rattle.marks.proofs.mark_table.Goals as goal
 
 pub returns : goal.returns

@@ -1,7 +1,5 @@
 -- An arc was there or none, of a sum too large; of any other the arc came, or no place was left.
-use mathlib.Core.Path.{refl}
 use Rattle.node_contractor.proofs.Pairs.{addable, arc_there, no_arc_there, added_came, pool_full}
-use borrow.Author.Rules.{rules}
 use Rattle.node_contractor.proofs.add_shortcut.Goals as goal
 
 pub reduce_edge-requires : goal.reduce_edge-requires

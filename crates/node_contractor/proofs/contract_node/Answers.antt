@@ -1,7 +1,5 @@
 -- Rule 3, then rule 4.
-use mathlib.Core.Path.{◌∙◌}
 use Rattle.node_contractor.proofs.InArcs.{does_came, does_refused, contract_stops, contract_done}
-use borrow.Author.Rules.{rules}
 use Rattle.node_contractor.proofs.contract_node.Goals as goal
 
 pub handle_shortcuts-step-requires : goal.handle_shortcuts-step-requires

@@ -1,5 +1,4 @@
 -- One search begins and goes over all pairs; the next may follow.
-use mathlib.Core.Path.{◌∙◌}
 use Rattle.search.proofs.Laws.{starting}
 use Rattle.node_contractor.proofs.InArcs.{sets_out, in_arc_passes}
 use Rattle.node_contractor.proofs.handle_in_arc.Goals as goal

@@ -1,17 +1,11 @@
 -- The invariant: of every graph and search that stood, what is left of the out list and what was done come to the whole.
-use mathlib.Core.List.{List}
-use mathlib.Core.Path.{◌≡◌, refl, ◌∙◌}
-use Prim.Native.Nat.{ℕ, ◌+◌, ◌*◌, ◌≤◌, ◌<◌}
+use mathlib.Core.Path.{refl, ◌∙◌}
+use Prim.Native.Nat.{◌+◌, ◌*◌, ◌≤◌, ◌<◌}
 use native.Mathlib.Omega.{arith}
-use borrow.Author.Rules.{rules}
 use lib.ListN.{length, get_or}
 use Rattle.rules.specs.Numbers.{max_weight}
-use Rattle.rules.specs.Graph.{Arc}
-use Rattle.rules.specs.Search.{Search}
-use Rattle.lists.specs.Walks.{column, steps}
 use Rattle.search.specs.Searching.{lent}
 use Rattle.search.proofs.Walks.{left_fit, left_room}
-use Rattle.node_contractor.specs.Promises.{Leaving}
 use Rattle.node_contractor.proofs.Pairs.{steps_came, steps_refused}
 use Rattle.node_contractor.proofs.OutArcs.{OutsLeft, outs_all, outs_left, outs_pairing, outs_sum, outs_on, outs_nearer, outs_stop, outs_done}
 use Rattle.node_contractor.proofs.handle_out_arcs.Goals as goal

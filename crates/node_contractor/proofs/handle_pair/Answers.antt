@@ -1,5 +1,4 @@
 -- The tests said which case of the definition it is.
-use mathlib.Core.Path.{refl}
 use native.Mathlib.Omega.{arith}
 use Rattle.node_contractor.proofs.Pairs.{same_ends, dropped, asks, still_pairing, witnessed, not_witnessed}
 use Rattle.node_contractor.proofs.handle_pair.Goals as goal

@@ -1,16 +1,13 @@
 -- The invariant: of every graph that stood, what is left of the in list and what was done come to the whole, and the next search may begin.
 use mathlib.Core.List.{List}
-use mathlib.Core.Path.{◌≡◌, refl, ◌∙◌}
-use Prim.Native.Nat.{ℕ, ◌+◌, ◌*◌, ◌≤◌, ◌<◌}
-use native.Mathlib.Omega.{arith}
-use borrow.Author.Rules.{rules}
+use mathlib.Core.Path.{◌≡◌}
+use Prim.Native.Nat.{ℕ}
 use lib.ListN.{length}
 use Rattle.rules.specs.Graph.{Arc}
 use Rattle.lists.specs.Walks.{column, steps}
 use Rattle.search.specs.Searching.{lent}
-use Rattle.search.proofs.Walks.{left_room}
 use Rattle.node_contractor.specs.Promises.{Contractible}
-use Rattle.node_contractor.proofs.InArcs.{InsLeft, ins_all, ins_left, ins_coming, ins_on, ins_nearer, ins_stop, ins_done, does_came, does_refused}
+use Rattle.node_contractor.proofs.InArcs.{InsLeft}
 use Rattle.node_contractor.proofs.handle_shortcuts.Given as goal
 
 abbrev pub invariant-loop-place : goal.invariant-loop-place

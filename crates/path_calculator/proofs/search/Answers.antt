@@ -1,5 +1,4 @@
 -- The search of a query: from entered ends and the first step, through the rounds.
-use mathlib.Core.Path.{◌∙◌}
 use native.Mathlib.Omega.{arith}
 use Rattle.rules.specs.Columns.{forward, backward, table}
 use Rattle.path_calculator.proofs.Entered.{all_small, entering, running, searched_is, fwd_left, bwd_left}

@@ -1,6 +1,5 @@
 -- The forward half, then the backward half.
 use native.Mathlib.Omega.{arith}
-use borrow.Author.Rules.{rules}
 use Rattle.unpacking.proofs.Opened.{first_within}
 use Rattle.paths.proofs.Chains.{walk_within, walk_put}
 use Rattle.paths.proofs.extract_nodes.Goals as goal

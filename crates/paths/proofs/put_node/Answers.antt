@@ -1,5 +1,4 @@
 -- A node is put, or there is no room for it, or the limit is met.
-use borrow.Author.Rules.{rules}
 use Rattle.unpacking.proofs.Opened.{put_none, put_one, put_past}
 use Rattle.paths.proofs.put_node.Goals as goal
 

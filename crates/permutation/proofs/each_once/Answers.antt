@@ -1,10 +1,9 @@
 -- The invariant: the numbers passed name each node once, and the flags are of the nodes that they name.
 use mathlib.Core.Path.{refl}
-use Prim.Native.Nat.{◌-◌, ◌≤◌}
 use native.Mathlib.Omega.{arith}
 use borrow.Author.Rules.{rules}
-use lib.ListN.{length, get_or-replicate}
-use Rattle.permutation.proofs.Once.{Seen, none_seen, all_seen, too_high, named_twice, see}
+use lib.ListN.{get_or-replicate}
+use Rattle.permutation.proofs.Once.{none_seen, all_seen, too_high, named_twice, see}
 use Rattle.permutation.proofs.each_once.Goals as goal
 
 pub loop-i-init : goal.loop-i-init

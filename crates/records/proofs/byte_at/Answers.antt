@@ -2,7 +2,6 @@
 use mathlib.Core.Path.{refl}
 use native.Mathlib.Omega.{arith}
 use Rattle.records.proofs.Reading.{past_end}
-use borrow.Author.Rules.{rules}
 use Rattle.records.proofs.byte_at.Goals as goal
 
 pub returns-then-input-at : goal.returns-then-input-at

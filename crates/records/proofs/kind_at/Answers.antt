@@ -1,7 +1,6 @@
 -- Each return is by the byte that was looked at.
 use mathlib.Core.Path.{refl}
 use Rattle.records.proofs.Reading.{wrong_tag, wrong_second, wrong_kind, cut_short, stands_whole, at_the_end, near_the_end}
-use borrow.Author.Rules.{rules}
 use Rattle.records.proofs.kind_at.Goals as goal
 
 pub returns-then-end-at : goal.returns-then-end-at

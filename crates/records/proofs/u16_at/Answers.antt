@@ -1,6 +1,5 @@
 -- The low byte first.
 use Rattle.records.proofs.Reading.{u16_of}
-use borrow.Author.Rules.{rules}
 use Rattle.records.proofs.u16_at.Goals as goal
 
 pub returns : goal.returns

@@ -1,6 +1,5 @@
 -- The low half first.
 use Rattle.records.proofs.Reading.{u32_of}
-use borrow.Author.Rules.{rules}
 use Rattle.records.proofs.u32_at.Goals as goal
 
 pub returns : goal.returns

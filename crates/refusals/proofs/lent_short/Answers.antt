@@ -1,7 +1,6 @@
 -- The definition's test, part by part.
 use mathlib.Core.Path.{sym, ◌∙◌}
 use Rattle.refusals.proofs.Tests.{few_ranks, by_forward, by_backward, by_scratch}
-use borrow.Author.Rules.{rules}
 use Rattle.refusals.proofs.lent_short.Goals as goal
 
 pub returns-then-ranks-n : goal.returns-then-ranks-n

@@ -2,7 +2,6 @@
 use mathlib.Core.Path.{sym, ◌∙◌}
 use native.Mathlib.Omega.{arith}
 use Rattle.refusals.proofs.Tests.{first_graph, first_later, nodes_few, wrong_length, wrong_numbers, right_order}
-use borrow.Author.Rules.{rules}
 use Rattle.refusals.proofs.refusal.Goals as goal
 
 pub returns-then-number-ne0 : goal.returns-then-number-ne0

@@ -2,7 +2,6 @@
 use mathlib.Core.Path.{sym}
 use native.Mathlib.Omega.{arith}
 use Rattle.refusals.proofs.Tests.{few_arcs, few_weights, few_nodes, few_labels, by_heap}
-use borrow.Author.Rules.{rules}
 use Rattle.refusals.proofs.scratch_short.Goals as goal
 
 pub returns-then-pool-gt3074457345618258602 : goal.returns-then-pool-gt3074457345618258602

@@ -2,8 +2,6 @@
 use mathlib.Core.Bool.{true≢false}
 use mathlib.Core.Path.{sym, ◌∙◌}
 use native.Mathlib.Omega.{arith}
-use borrow.Author.Rules.{rules}
-use borrow.Author.Tests.{not-true, not-false}
 use Rattle.rules.specs.Columns.{forward, backward, table}
 use Rattle.rules.proofs.Decides.{denied}
 use Rattle.tables.specs.Lent.{columns}

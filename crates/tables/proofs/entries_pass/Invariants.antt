@@ -1,13 +1,7 @@
 -- The invariant: the entries of the ranks passed keep the rules, and no mark is of a later one.
-use mathlib.Core.Path.{refl}
 use Prim.Native.Nat.{◌+◌, ◌-◌, ◌≤◌}
-use native.Mathlib.Omega.{arith}
-use borrow.Author.Tests.{not-true, not-false}
-use Rattle.rules.proofs.Decides.{yes, no}
 use Rattle.tables.specs.Lent.{columns, side, sided}
 use Rattle.tables.specs.Shapes.{RanksRules, Earlier}
-use Rattle.tables.proofs.Marks.{everywhere}
-use Rattle.tables.proofs.Entries.{stretch_within, rank_fails, rank_holds}
 use Rattle.tables.proofs.entries_pass.Given as goal
 
 abbrev pub invariant-loop-r : goal.invariant-loop-r

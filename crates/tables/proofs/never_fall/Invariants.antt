@@ -1,11 +1,6 @@
 -- The invariant: none of the starts passed is above the next.
 use Prim.Native.Nat.{ℕ, suc, ◌-◌, ◌≤◌, ◌<◌}
-use native.Mathlib.Numerals.{add-one}
-use native.Mathlib.Omega.{arith}
-use borrow.Author.Rules.{rules}
-use borrow.Author.Count.{below_more}
 use lib.ListN.{length, get_or}
-use Rattle.rules.proofs.Decides.{yes, no}
 use Rattle.tables.proofs.never_fall.Given as goal
 
 abbrev pub invariant-loop-r : goal.invariant-loop-r

@@ -1,7 +1,6 @@
 -- Each return is a field of `Opening` that fails, or all that hold.
 use Prim.Native.Nat.{◌-◌}
 use native.Mathlib.Omega.{arith}
-use borrow.Author.Rules.{rules}
 use borrow.Author.Tests.{eqb-true, eq-eqb}
 use lib.ListN.{get_or}
 use Rattle.rules.proofs.Decides.{no}

@@ -1,10 +1,7 @@
 -- Each return is a field of `EntryRules` that fails, or all that hold.
-use mathlib.Core.Logic.{⊎_elim}
 use mathlib.Core.Path.{◌≡◌}
 use native.Mathlib.Omega.{arith}
-use borrow.Author.Rules.{rules}
 use Rattle.rules.specs.Numbers.{invalid}
-use Rattle.rules.specs.Columns.{forward}
 use Rattle.rules.proofs.Decides.{yes, no}
 use Rattle.tables.specs.Lent.{columns, side}
 use Rattle.tables.specs.Shapes.{numbers}

@@ -1,10 +1,7 @@
 -- The invariant: the entries passed keep the rules, and the nodes that they lead to have this rank's mark.
-use Prim.Native.Nat.{◌-◌, ◌≤◌}
 use native.Mathlib.Omega.{arith}
-use borrow.Author.Tests.{not-true, not-false}
 use Rattle.rules.proofs.Decides.{yes, no}
-use Rattle.tables.specs.Lent.{columns, side, sided}
-use Rattle.tables.proofs.Entries.{even_columns, Passed, none_passed, all_passed, fails_here, neighbour_inside, twin_here, holds_here}
+use Rattle.tables.proofs.Entries.{even_columns, none_passed, all_passed, fails_here, neighbour_inside, twin_here, holds_here}
 use Rattle.tables.proofs.rank_passes.Goals as goal
 
 pub overflow_add-mark : goal.overflow_add-mark

@@ -1,6 +1,5 @@
 -- Each return is a field of `Shape` that fails, or all that hold.
 use native.Mathlib.Omega.{arith}
-use borrow.Author.Rules.{rules}
 use Rattle.rules.specs.Columns.{begin, room}
 use Rattle.rules.specs.TableRules.{used}
 use Rattle.rules.proofs.Decides.{no, decides_as}

@@ -1,6 +1,5 @@
 -- The word is the paper's.
 use Rattle.rules.specs.Program.{word_bad_record, bad_record}
-use borrow.Author.Rules.{rules}
 use Rattle.text.proofs.bad_record.Goals as goal
 
 pub put_told-requires : goal.put_told-requires

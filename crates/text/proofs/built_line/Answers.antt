@@ -1,7 +1,6 @@
 -- The first count, then the second with the end of the line.
 use Rattle.rules.specs.Program.{word_built}
 use Rattle.text.proofs.Writing.{wrote_both, fits_first, fits_then, counts_parts}
-use borrow.Author.Rules.{rules}
 use Rattle.text.proofs.built_line.Goals as goal
 
 pub put_word-end-requires : goal.put_word-end-requires

@@ -1,6 +1,5 @@
 -- A byte is stored where there is a place for it.
 use Rattle.text.proofs.Writing.{wrote_one, wrote_past}
-use borrow.Author.Rules.{rules}
 use Rattle.text.proofs.put.Goals as goal
 
 pub returns-then-out-at : goal.returns-then-out-at

@@ -1,6 +1,5 @@
 -- The blank, then the number.
 use Rattle.text.proofs.Writing.{wrote_both}
-use borrow.Author.Rules.{rules}
 use Rattle.text.proofs.put_node.Goals as goal
 
 pub returns : goal.returns

@@ -1,15 +1,9 @@
 -- The front of the walk is written, and one node more.
-use mathlib.Core.List.{◌∷◌}
-use mathlib.Core.Path.{◌≡◌, refl, ◌∙◌}
-use Prim.Native.Nat.{◌-◌, ◌≤◌}
+use mathlib.Core.Path.{refl, ◌∙◌}
 use native.Mathlib.Omega.{arith}
-use lib.ListN.{length, take}
 use lib.Seq.{take_all}
 use Rattle.rules.specs.Lists.{flat_map}
-use Rattle.rules.specs.Program.{space, decimal}
-use Rattle.text.specs.Wrote.{Wrote}
 use Rattle.text.proofs.Writing.{wrote_none, wrote_both, front_next, front_fits}
-use borrow.Author.Rules.{rules}
 use Rattle.text.proofs.put_nodes.Goals as goal
 
 pub loop-i-init : goal.loop-i-init

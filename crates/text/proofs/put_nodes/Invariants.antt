@@ -1,15 +1,11 @@
 -- The front of the walk is written, and one node more.
 use mathlib.Core.List.{◌∷◌}
-use mathlib.Core.Path.{◌≡◌, refl, ◌∙◌}
+use mathlib.Core.Path.{◌≡◌}
 use Prim.Native.Nat.{◌-◌, ◌≤◌}
-use native.Mathlib.Omega.{arith}
 use lib.ListN.{length, take}
-use lib.Seq.{take_all}
 use Rattle.rules.specs.Lists.{flat_map}
 use Rattle.rules.specs.Program.{space, decimal}
 use Rattle.text.specs.Wrote.{Wrote}
-use Rattle.text.proofs.Writing.{wrote_none, wrote_both, front_next, front_fits}
-use borrow.Author.Rules.{rules}
 use Rattle.text.proofs.put_nodes.Given as goal
 
 abbrev pub invariant-loop-i : goal.invariant-loop-i

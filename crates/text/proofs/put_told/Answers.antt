@@ -1,6 +1,5 @@
 -- The word, the number, the end of the line.
 use Rattle.text.proofs.Writing.{word_fits, number_fits, end_fits, wrote_line}
-use borrow.Author.Rules.{rules}
 use Rattle.text.proofs.put_told.Goals as goal
 
 pub put_word-end-requires : goal.put_word-end-requires

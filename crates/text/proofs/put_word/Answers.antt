@@ -1,12 +1,8 @@
 -- The front of the word is written, and one byte more.
-use mathlib.Core.Path.{◌≡◌, refl, ◌∙◌}
-use Prim.Native.Nat.{◌-◌, ◌≤◌}
+use mathlib.Core.Path.{refl, ◌∙◌}
 use native.Mathlib.Omega.{arith}
-use lib.ListN.{length, take}
 use lib.Seq.{take_all}
-use Rattle.text.specs.Wrote.{Wrote}
 use Rattle.text.proofs.Writing.{wrote_none, wrote_both, bytes_next, byte_fits}
-use borrow.Author.Rules.{rules}
 use Rattle.text.proofs.put_word.Goals as goal
 
 pub loop-i-init : goal.loop-i-init

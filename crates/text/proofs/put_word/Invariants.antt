@@ -1,12 +1,8 @@
 -- The front of the word is written, and one byte more.
-use mathlib.Core.Path.{◌≡◌, refl, ◌∙◌}
+use mathlib.Core.Path.{◌≡◌}
 use Prim.Native.Nat.{◌-◌, ◌≤◌}
-use native.Mathlib.Omega.{arith}
 use lib.ListN.{length, take}
-use lib.Seq.{take_all}
 use Rattle.text.specs.Wrote.{Wrote}
-use Rattle.text.proofs.Writing.{wrote_none, wrote_both, bytes_next, byte_fits}
-use borrow.Author.Rules.{rules}
 use Rattle.text.proofs.put_word.Given as goal
 
 abbrev pub invariant-loop-i : goal.invariant-loop-i

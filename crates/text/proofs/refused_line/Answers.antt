@@ -1,6 +1,5 @@
 -- The word is the paper's.
 use Rattle.rules.specs.Program.{word_refused, refused_line}
-use borrow.Author.Rules.{rules}
 use Rattle.text.proofs.refused_line.Goals as goal
 
 pub put_told-requires : goal.put_told-requires

@@ -1,7 +1,6 @@
 -- "none", or the parts of a route one after the other.
 use Rattle.rules.specs.Program.{word_route, word_none, line}
 use Rattle.text.proofs.Writing.{wrote_both, fits_first, fits_then, route_parts, route_none}
-use borrow.Author.Rules.{rules}
 use Rattle.text.proofs.route_line.Goals as goal
 
 pub put_word-requires : goal.put_word-requires

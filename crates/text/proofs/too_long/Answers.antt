@@ -1,6 +1,5 @@
 -- The word is the paper's.
 use Rattle.rules.specs.Program.{word_too_long, line}
-use borrow.Author.Rules.{rules}
 use Rattle.text.proofs.too_long.Goals as goal
 
 pub put_word-requires : goal.put_word-requires

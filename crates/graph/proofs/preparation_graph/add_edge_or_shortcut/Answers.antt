@@ -10,8 +10,6 @@ use Rattle.lists.specs.Promises.{CanTake}
 use Rattle.graph.specs.Promises.{Addable}
 use Rattle.graph.proofs.Answering.{answers_came, answers_full}
 use Rattle.graph.proofs.Standing.{takes, freed_below, stands_reused, stands_fresh, pool_full}
-use borrow.Author.Rules.{rules}
-use Rattle.lists.proofs.put_arc.Reads as put-arc-reads
 use Rattle.graph.proofs.preparation_graph.add_edge_or_shortcut.Goals as goal
 
 addable-takes : {n pool p : ℕ} {m : Memory} {w : List ℕ} {state : Pool} {a : Arc} {g : List Arc} → Addable n pool m w state a g → p < pool → CanTake m w p a

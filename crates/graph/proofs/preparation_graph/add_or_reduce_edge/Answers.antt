@@ -1,9 +1,5 @@
 -- `add_or_reduce_edge` meets its contract: where nothing was reduced the slices are as they were, and an arc is added.
-use mathlib.Core.Path.{refl, ◌∙◌}
 use Rattle.graph.proofs.Answering.{answers_came, still_addable, answers_after}
-use borrow.Author.Rules.{rules}
-use Rattle.graph.proofs.preparation_graph.add_edge_or_shortcut.Reads as add-edge-or-shortcut-reads
-use Rattle.graph.proofs.preparation_graph.reduce_edge.Reads as reduce-edge-reads
 use Rattle.graph.proofs.preparation_graph.add_or_reduce_edge.Goals as goal
 
 pub returns-then-reduce_edge : goal.returns-then-reduce_edge

@@ -1,9 +1,7 @@
 -- `disconnect` meets its contract: the arcs that leave go first, then those that enter.
-use mathlib.Core.Path.{◌∙◌}
 use native.Mathlib.Omega.{arith}
 use Rattle.graph.specs.Promises.{untouched}
 use Rattle.graph.proofs.Removing.{disconnected}
-use Rattle.graph.proofs.preparation_graph.remove_side.Reads as remove-side-reads
 use Rattle.graph.proofs.preparation_graph.disconnect.Goals as goal
 
 pub remove_side-free-requires : goal.remove_side-free-requires

@@ -1,18 +1,13 @@
 -- The invariant: the slices hold the first i links.
 use mathlib.Core.List.{map}
-use mathlib.Core.Path.{◌≡◌, refl, ◌∙◌}
+use mathlib.Core.Path.{◌≡◌}
 use Prim.Native.Nat.{◌-◌, ◌≤◌}
-use native.Mathlib.Omega.{arith}
-use borrow.Author.Rules.{rules}
 use lib.ListN.{length, take}
 use Rattle.rules.specs.Columns.{link_list}
 use Rattle.rules.specs.Build.{link_arc}
 use Rattle.input_graph.specs.Given.{links, Between}
 use Rattle.lists.specs.Memory.{memory}
 use Rattle.graph.specs.Stands.{Stands}
-use Rattle.graph.proofs.LinksIn.{next_addable, next_came, next_full, all_came}
-use Rattle.graph.proofs.preparation_graph.add_edge_or_shortcut.Reads as add-edge-or-shortcut-reads
-use Rattle.graph.proofs.preparation_graph.clear.Reads as clear_reads
 use Rattle.graph.proofs.preparation_graph.from_input_graph.Given as goal
 
 abbrev pub invariant-loop-i : goal.invariant-loop-i

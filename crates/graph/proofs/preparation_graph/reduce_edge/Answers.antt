@@ -10,8 +10,6 @@ use Rattle.lists.specs.Memory.{memory, arc}
 use Rattle.graph.specs.Promises.{Addable}
 use Rattle.graph.proofs.Reading.{outs_walk}
 use Rattle.graph.proofs.Reducing.{place, place_room, reduces_none, reduces_not, reduces_it}
-use borrow.Author.Rules.{rules}
-use Rattle.lists.proofs.find_arc.Reads as find-arc-reads
 use Rattle.graph.proofs.preparation_graph.reduce_edge.Goals as goal
 use Rattle.graph.proofs.preparation_graph.reduce_edge.Goals.{After-find_arc-place, Else-place}
 

@@ -3,7 +3,7 @@ use mathlib.Core.List.{List}
 use mathlib.Core.Path.{◌≡◌, refl, ap, ◌∙◌}
 use Prim.Native.Nat.{ℕ, ◌+◌, ◌*◌, ◌-◌, ◌<◌, ◌≤◌}
 use native.Mathlib.Omega.{arith}
-use lib.ListN.{length, length-set}
+use lib.ListN.{length}
 use Rattle.rules.specs.Numbers.{invalid}
 use Rattle.rules.specs.Lists.{keep}
 use Rattle.rules.specs.Graph.{Arc}
@@ -14,9 +14,6 @@ use Rattle.lists.specs.Walks.{before}
 use Rattle.lists.specs.Promises.{Room}
 use Rattle.graph.specs.Promises.{state_of}
 use Rattle.graph.proofs.Removing.{place_room, far_inside, far_open, beyond_walk, in_beyond, stands_removed}
-use borrow.Author.Rules.{rules}
-use Rattle.lists.proofs.predecessor.Reads as predecessor-reads
-use Rattle.lists.proofs.unlink.Reads as unlink-reads
 use Rattle.graph.proofs.preparation_graph.remove_first.Goals as goal
 use Rattle.graph.proofs.preparation_graph.remove_first.Goals.{After-predecessor-before, Start}
 

@@ -1,14 +1,12 @@
 -- `remove_side` meets its contract. The loop's invariant: of any graph that stood at first, one stands now that has the same arcs
 -- beside the list. The measure is what is left of the list.
-use mathlib.Core.Path.{◌≡◌, refl, ◌∙◌}
+use mathlib.Core.Path.{refl, ◌∙◌}
 use Prim.Native.Nat.{◌+◌, ◌*◌, ◌≤◌}
 use native.Mathlib.Omega.{arith}
 use lib.ListN.{length}
-use Rattle.lists.specs.Memory.{memory, first}
-use Rattle.lists.specs.Walks.{column, steps}
+use Rattle.lists.specs.Memory.{memory}
 use Rattle.graph.specs.Promises.{HoldsSome}
-use Rattle.graph.proofs.Removing.{Fewer, fewer_not, fewer_on, fewer_all, fewer_holds, removed_nearer}
-use Rattle.graph.proofs.preparation_graph.remove_first.Reads as remove-first-reads
+use Rattle.graph.proofs.Removing.{fewer_not, fewer_on, fewer_all, fewer_holds, removed_nearer}
 use Rattle.graph.proofs.preparation_graph.remove_side.Goals as goal
 use Rattle.graph.proofs.preparation_graph.remove_side.Goals.{At-loop-nodes}
 

@@ -1,11 +1,10 @@
 -- `clear_labels` meets its contract. The loop's invariant: the stamps of the nodes passed are 0. The measure is the nodes that are left.
-use mathlib.Core.Path.{◌≡◌, refl, ◌∙◌}
-use Prim.Native.Nat.{ℕ, ◌+◌, ◌*◌, ◌-◌, ◌<◌, ◌≤◌}
+use mathlib.Core.Path.{refl, ◌∙◌}
+use Prim.Native.Nat.{◌+◌, ◌*◌}
 use native.Mathlib.Decide.{ℕ_discrete}
 use native.Mathlib.Omega.{arith}
 use lib.Seq.{get_or-set_same, get_or-set_other}
-use lib.ListN.{length, length-set}
-use Rattle.search.specs.Labels.{stamp}
+use lib.ListN.{length-set}
 use Rattle.search.proofs.witness_search.clear_labels.Goals as goal
 
 pub loop-v-init : goal.loop-v-init

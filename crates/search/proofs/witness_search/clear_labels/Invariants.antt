@@ -1,10 +1,7 @@
 -- `clear_labels` meets its contract. The loop's invariant: the stamps of the nodes passed are 0. The measure is the nodes that are left.
-use mathlib.Core.Path.{◌≡◌, refl, ◌∙◌}
-use Prim.Native.Nat.{ℕ, ◌+◌, ◌*◌, ◌-◌, ◌<◌, ◌≤◌}
-use native.Mathlib.Decide.{ℕ_discrete}
-use native.Mathlib.Omega.{arith}
-use lib.Seq.{get_or-set_same, get_or-set_other}
-use lib.ListN.{length, length-set}
+use mathlib.Core.Path.{◌≡◌}
+use Prim.Native.Nat.{ℕ, ◌-◌, ◌<◌, ◌≤◌}
+use lib.ListN.{length}
 use Rattle.search.specs.Labels.{stamp}
 use Rattle.search.proofs.witness_search.clear_labels.Given as goal
 

@@ -1,7 +1,6 @@
 -- `find_max_weight` meets its contract: the answer at once, by label or by stamp, or that of a run.
-use mathlib.Core.Path.{refl, sym, ◌∙◌}
+use mathlib.Core.Path.{sym, ◌∙◌}
 use native.Mathlib.Omega.{arith}
-use borrow.Author.Rules.{rules}
 use Rattle.search.proofs.Offers.{label_room}
 use Rattle.search.proofs.Answers.{answered_labelled, answered_settled, answered_run}
 use Rattle.search.proofs.witness_search.find_max_weight.Goals as goal

@@ -1,6 +1,5 @@
 -- `get_current_weight` meets its contract: `label_at`, by its test.
 use mathlib.Core.Path.{sym}
-use borrow.Author.Rules.{rules}
 use Rattle.search.proofs.Labels.{label_seen, label_missing}
 use Rattle.search.proofs.witness_search.get_current_weight.Goals as goal
 

@@ -1,7 +1,6 @@
 -- `init` meets its contract: to the next base no node has a label but the start.
 use mathlib.Core.Path.{refl}
 use native.Mathlib.Omega.{arith}
-use borrow.Author.Rules.{rules}
 use Rattle.heap.proofs.Laws.{empty_ordered}
 use Rattle.search.proofs.Offers.{started}
 use Rattle.search.proofs.witness_search.init.Goals as goal

@@ -1,7 +1,5 @@
 -- `offer` meets its contract: `Offers` has a law for either answer of the test.
-use mathlib.Core.Path.{refl}
 use native.Mathlib.Omega.{arith}
-use borrow.Author.Rules.{rules}
 use Rattle.search.proofs.Offers.{offered_not, offered_new}
 use Rattle.search.proofs.witness_search.offer.Goals as goal
 

@@ -1,7 +1,6 @@
 -- `reached` meets its contract: the target's label first, then the node.
 use mathlib.Core.Path.{sym}
 use borrow.Author.Tests.{le-leb, lt-leb}
-use borrow.Author.Rules.{rules}
 use Rattle.search.proofs.witness_search.reached.Goals as goal
 
 pub returns-then-get_current_weight-weight_limit : goal.returns-then-get_current_weight-weight_limit

@@ -1,11 +1,10 @@
 -- `relax` meets its contract. The loop's invariant: what is left of a chain, and what was done, comes to the whole. The measure is the
 -- number of links to the end of the chain.
-use mathlib.Core.Path.{◌≡◌, refl, ◌∙◌}
-use native.Mathlib.Omega.{arith}
+use mathlib.Core.Path.{◌≡◌}
 use lib.ListN.{length}
 use Rattle.lists.specs.Walks.{steps}
-use Rattle.search.specs.Promises.{Each, Usable, Relaxing}
-use Rattle.search.proofs.Rows.{link, Rest, rest_all, first_usable, first_offering, walk_falls, rest_on, rest_done}
+use Rattle.search.specs.Promises.{Each, Relaxing}
+use Rattle.search.proofs.Rows.{link, Rest}
 use Rattle.search.proofs.witness_search.relax.Given as goal
 
 abbrev pub invariant-loop-place : goal.invariant-loop-place

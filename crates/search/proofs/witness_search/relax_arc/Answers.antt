@@ -1,5 +1,4 @@
 -- `relax_arc` meets its contract: `cross`, by its test.
-use borrow.Author.Rules.{rules}
 use Rattle.heap.specs.Items.{pair}
 use Rattle.search.proofs.Crossing.{cross_offer}
 use Rattle.search.proofs.Offers.{crossed_not}

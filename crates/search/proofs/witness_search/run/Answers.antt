@@ -1,12 +1,9 @@
 -- `run` meets its contract. The loop's invariant: what is to come, with `left` as fuel, is what came from the start. The measure is `left`.
-use mathlib.Core.Path.{◌≡◌, refl, ◌∙◌}
+use mathlib.Core.Path.{refl, ◌∙◌}
 use Prim.Native.Nat.{◌≤◌}
 use native.Mathlib.Omega.{arith}
-use lib.ListN.{length}
 use borrow.Author.Tests.{not-true, not-false}
-use Rattle.search.specs.Searching.{lent}
-use Rattle.search.specs.Promises.{Each, Asked}
-use Rattle.search.proofs.Runs.{Onward, onward_all, onward_stop, most_some, onward_on}
+use Rattle.search.proofs.Runs.{onward_all, onward_stop, most_some, onward_on}
 use Rattle.search.proofs.witness_search.run.Goals as goal
 use Rattle.search.proofs.witness_search.run.Goals.{Else-not-now}
 

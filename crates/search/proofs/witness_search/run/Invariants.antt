@@ -1,12 +1,9 @@
 -- `run` meets its contract. The loop's invariant: what is to come, with `left` as fuel, is what came from the start. The measure is `left`.
-use mathlib.Core.Path.{◌≡◌, refl, ◌∙◌}
-use Prim.Native.Nat.{◌≤◌}
-use native.Mathlib.Omega.{arith}
+use mathlib.Core.Path.{◌≡◌}
 use lib.ListN.{length}
-use borrow.Author.Tests.{not-true, not-false}
 use Rattle.search.specs.Searching.{lent}
 use Rattle.search.specs.Promises.{Each, Asked}
-use Rattle.search.proofs.Runs.{Onward, onward_all, onward_stop, most_some, onward_on}
+use Rattle.search.proofs.Runs.{Onward}
 use Rattle.search.proofs.witness_search.run.Given as goal
 
 abbrev pub invariant-loop-now : goal.invariant-loop-now

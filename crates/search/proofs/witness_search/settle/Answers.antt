@@ -1,7 +1,4 @@
 -- `settle` meets its contract: v is marked, and the chain of its out-arcs relaxed.
-use mathlib.Core.Path.{◌∙◌}
-use lib.ListN.{length-set}
-use borrow.Author.Rules.{rules}
 use Rattle.rules.specs.Search.{mark_settled}
 use Rattle.search.specs.Labels.{put_settled}
 use Rattle.search.proofs.Nodes.{settled_row, settling, settled}

@@ -1,8 +1,7 @@
 -- `take` meets its contract: the first entry's node is settled already, or is settled now.
-use mathlib.Core.Path.{refl, sym, ap, ◌∙◌}
+use mathlib.Core.Path.{sym, ap, ◌∙◌}
 use mathlib.Core.Bool.{not}
 use native.Mathlib.Omega.{arith}
-use borrow.Author.Rules.{rules}
 use Rattle.rules.specs.Search.{with_heap}
 use Rattle.search.proofs.Offers.{label_room}
 use Rattle.search.proofs.Takes.{leaves_reached, taken_over, taken_settling, taken_settled}

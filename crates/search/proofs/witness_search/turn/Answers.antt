@@ -1,8 +1,7 @@
 -- `turn` meets its contract: each test on the slices is one on the search.
-use mathlib.Core.Path.{◌≡◌, refl, ap}
+use mathlib.Core.Path.{◌≡◌, ap}
 use Prim.Native.Nat.{◌<◌, ◌≤◌}
 use native.Mathlib.Omega.{arith}
-use borrow.Author.Rules.{rules}
 use Rattle.rules.specs.Heap.{Item}
 use Rattle.rules.specs.Search.{Search}
 use Rattle.heap.specs.Items.{item}
