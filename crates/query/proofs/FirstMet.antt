@@ -9,7 +9,7 @@ use lib.ListN.{length, get_or}
 use borrow.Author.Tests.{lt-ltb, le-ltb}
 use Rattle.rules.specs.Numbers.{max_ends}
 use Rattle.rules.specs.Lists.{all}
-use Rattle.rules.specs.Columns.{Hierarchy, Ends, forward, backward, begin}
+use Rattle.rules.specs.Columns.{Hierarchy, Ends, begin}
 use Rattle.rules.specs.TableRules.{used, TableRules, table_test}
 use Rattle.rules.specs.Refusals.{QueryCall, first_met, short, ends_fit, offset_fits, check_rows, end_rows, query_scratch, check_refusal, query_refusal}
 use Rattle.rules.proofs.Cases.{on_test}

@@ -24,7 +24,7 @@ use Rattle.tables.proofs.Check.{shape_of}
 use Rattle.halves.specs.Labels.{stamp, seen, half}
 use Rattle.halves.specs.Promises.{Reads}
 use Rattle.halves.proofs.Labels.{label_in, settled_in}
-use Rattle.turns.specs.Turning.{best, Settling, Settles, Turning, Turns}
+use Rattle.turns.specs.Turning.{Settling, Settles, Turning}
 use Rattle.turns.proofs.Reading.{rank_read, rank_below, starts_room, from_read, to_read, Seen, seen_entry, stretch_end, lower_by, stall_scan}
 
 module _ (n : ℕ) (ranks starts neighbours weights ts tm tw labels heap₀ facing : List ℕ) (base len₀ : ℕ) (b : Best)

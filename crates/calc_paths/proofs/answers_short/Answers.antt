@@ -1,5 +1,4 @@
 -- Each return is a column that is short, or the places divided.
-use borrow.Author.Rules.{rules}
 use Rattle.calc_paths.proofs.Rows.{numbers_short, weights_short, lengths_short, none_asked, places_divided}
 use Rattle.calc_paths.proofs.answers_short.Goals as goal
 

@@ -1,6 +1,5 @@
 -- The rows of the whole call first; a call that meets none is filled pair by pair, over cleared labels.
 use mathlib.Core.Path.{sym, ◌∙◌}
-use borrow.Author.Rules.{rules}
 use Rattle.calc_paths.specs.Many.{paths_refusal}
 use Rattle.calc_paths.proofs.Rows.{refused_whole, labels_room, cleared_fillable, filled_whole}
 use Rattle.calc_paths.proofs.calc_paths.Goals as goal

@@ -1,10 +1,9 @@
 -- The invariant: the pairs passed are answered, and what is left of the columns is as it was.
 use Prim.Native.Nat.{◌-◌}
-use native.Mathlib.Omega.{arith}
 use lib.ListN.{length}
 use Rattle.tables.specs.Lent.{columns, lent}
 use Rattle.calc_paths.specs.Filling.{columns_of}
-use Rattle.calc_paths.proofs.Going.{Going, going_first, filling, going_on, done}
+use Rattle.calc_paths.proofs.Going.{Going}
 use Rattle.calc_paths.proofs.fill_all.Given as goal
 
 abbrev pub invariant-loop-k : goal.invariant-loop-k

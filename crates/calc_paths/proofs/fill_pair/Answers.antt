@@ -1,6 +1,5 @@
 -- The pair's places are lent as a part of the path column; the answer's numbers are put in theirs.
 use native.Mathlib.Omega.{arith}
-use borrow.Author.Rules.{rules}
 use Rattle.calc_paths.proofs.Pairs.{cut_long, filled, few_nodes}
 use Rattle.calc_paths.proofs.fill_pair.Goals as goal
 

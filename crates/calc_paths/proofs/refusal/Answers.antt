@@ -1,6 +1,5 @@
 -- Each return is the first row that is met, by the tests that led there.
 use mathlib.Core.Path.{sym, ◌∙◌}
-use borrow.Author.Rules.{rules}
 use Rattle.rules.specs.Columns.{forward, backward, table}
 use Rattle.query.proofs.FirstMet.{table_rules}
 use Rattle.calc_paths.proofs.Rows.{scratch_alone, tables_broken, columns_differ, answers_lack, scratch_lacks, none_met}

@@ -1,8 +1,6 @@
 -- Each turn takes a record more; where none is taken, the loop ends.
-use Prim.Native.Nat.{◌+◌, ◌-◌}
 use native.Mathlib.Omega.{arith}
-use lib.ListN.{length}
-use Rattle.gather.proofs.Columns.{Going, begins, rooms_now, goes_on, all_gathered}
+use Rattle.gather.proofs.Columns.{begins, rooms_now, goes_on, all_gathered}
 use Rattle.gather.proofs.gather.Goals as goal
 
 pub loop-before-init : goal.loop-before-init

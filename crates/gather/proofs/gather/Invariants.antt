@@ -1,8 +1,7 @@
 -- Each turn takes a record more; where none is taken, the loop ends.
 use Prim.Native.Nat.{◌+◌, ◌-◌}
-use native.Mathlib.Omega.{arith}
 use lib.ListN.{length}
-use Rattle.gather.proofs.Columns.{Going, begins, rooms_now, goes_on, all_gathered}
+use Rattle.gather.proofs.Columns.{Going}
 use Rattle.gather.proofs.gather.Given as goal
 
 abbrev pub invariant-loop-before : goal.invariant-loop-before

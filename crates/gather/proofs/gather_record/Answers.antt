@@ -1,7 +1,6 @@
 -- By the kind that stands there.
 use native.Mathlib.Omega.{arith}
 use Rattle.gather.proofs.Columns.{link_room, link_more, order_room, order_more, none_more}
-use borrow.Author.Rules.{rules}
 use Rattle.gather.proofs.gather_record.Goals as goal
 
 pub returns-then-orders-ne0 : goal.returns-then-orders-ne0

@@ -1,7 +1,6 @@
 -- The numbers of a link's record.
 use mathlib.Core.Path.{ap}
 use lib.ListN.{set}
-use borrow.Author.Rules.{rules}
 use Rattle.gather.proofs.put_link.Goals as goal
 
 pub returns : goal.returns

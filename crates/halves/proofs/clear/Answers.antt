@@ -1,10 +1,6 @@
 -- The invariant: the stamps passed are 0.
-use mathlib.Core.Path.{◌≡◌}
-use Prim.Native.Nat.{ℕ, ◌*◌, ◌-◌, ◌≤◌, ◌<◌}
 use native.Mathlib.Omega.{arith}
-use borrow.Author.Rules.{rules}
-use lib.ListN.{length, length-set}
-use Rattle.halves.specs.Labels.{stamp}
+use lib.ListN.{length-set}
 use Rattle.halves.proofs.Entering.{cleared_on}
 use Rattle.halves.proofs.clear.Goals as goal
 

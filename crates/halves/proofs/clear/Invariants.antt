@@ -1,11 +1,8 @@
 -- The invariant: the stamps passed are 0.
 use mathlib.Core.Path.{◌≡◌}
 use Prim.Native.Nat.{ℕ, ◌*◌, ◌-◌, ◌≤◌, ◌<◌}
-use native.Mathlib.Omega.{arith}
-use borrow.Author.Rules.{rules}
-use lib.ListN.{length, length-set}
+use lib.ListN.{length}
 use Rattle.halves.specs.Labels.{stamp}
-use Rattle.halves.proofs.Entering.{cleared_on}
 use Rattle.halves.proofs.clear.Given as goal
 
 abbrev pub invariant-loop-v : goal.invariant-loop-v

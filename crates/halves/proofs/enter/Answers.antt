@@ -1,10 +1,6 @@
 -- The invariant: the ends that are left, from here, are all of them from the start.
-use Prim.Native.Nat.{◌-◌}
 use native.Mathlib.Omega.{arith}
-use borrow.Author.Rules.{rules}
-use lib.ListN.{length}
-use Rattle.halves.specs.Promises.{Entering}
-use Rattle.halves.proofs.Entering.{Going, going_first, offering, going_on, enters}
+use Rattle.halves.proofs.Entering.{going_first, offering, going_on, enters}
 use Rattle.halves.proofs.enter.Goals as goal
 
 pub loop-k-init : goal.loop-k-init

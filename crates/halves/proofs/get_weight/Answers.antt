@@ -1,5 +1,4 @@
 -- Each return is a case of `seen`.
-use borrow.Author.Rules.{rules}
 use borrow.Author.Tests.{lt-ltb, le-ltb}
 use Rattle.rules.specs.Query.{no_label}
 use Rattle.halves.specs.Labels.{seen}

@@ -1,7 +1,6 @@
 -- `Labels` has a law for either answer of the test.
-use mathlib.Core.Path.{◌∙◌, ap, refl}
+use mathlib.Core.Path.{◌∙◌, ap}
 use native.Mathlib.Omega.{arith}
-use borrow.Author.Rules.{rules}
 use Rattle.rules.specs.Query.{Label}
 use Rattle.halves.specs.Labels.{put_label}
 use Rattle.halves.proofs.Labels.{offers_new, offers_not, stored_is}

@@ -1,8 +1,7 @@
 -- The invariant: the offers that are left, from here, are all of them from the start.
 use Prim.Native.Nat.{◌-◌}
-use native.Mathlib.Omega.{arith}
 use Rattle.halves.specs.Promises.{Relaxing}
-use Rattle.halves.proofs.Relaxing.{Going, going_first, offering, going_on, relaxes}
+use Rattle.halves.proofs.Relaxing.{Going}
 use Rattle.halves.proofs.relax.Given as goal
 
 abbrev pub invariant-loop-e : goal.invariant-loop-e

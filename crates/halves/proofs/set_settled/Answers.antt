@@ -1,6 +1,5 @@
 -- One store.
 use mathlib.Core.Path.{refl}
-use borrow.Author.Rules.{rules}
 use Rattle.halves.specs.Labels.{put_settled}
 use Rattle.halves.proofs.set_settled.Goals as goal
 

@@ -1,10 +1,8 @@
 -- Where the arms of the branch meet, the stamp is `kept_stamp`.
 use mathlib.Core.Path.{◌≡◌, ap}
-use mathlib.Core.Logic.{⊎_elim}
 use Prim.Native.Nat.{◌+◌, ◌*◌}
 use native.Mathlib.Omega.{arith}
 use lib.ListN.{set, length-set}
-use borrow.Author.Rules.{rules}
 use borrow.Author.Tests.{lt-ltb, le-ltb}
 use Rattle.halves.specs.Labels.{kept_stamp, put_label}
 use Rattle.halves.proofs.update_node.Goals as goal

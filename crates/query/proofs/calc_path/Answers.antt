@@ -1,6 +1,5 @@
 -- The refusals first; a query that none of them meets is answered by `route`, over cleared labels.
 use mathlib.Core.Path.{sym, ◌∙◌}
-use borrow.Author.Rules.{rules}
 use Rattle.query_laws.proofs.Accepted.{accepted}
 use Rattle.query.proofs.Found.{rooms, routing, tells_routed}
 use Rattle.query.proofs.Handing.{tells_refused}

@@ -1,5 +1,4 @@
 -- The part is as long as the walk, which fits the path.
-use borrow.Author.Rules.{rules}
 use Rattle.query.proofs.Handing.{part_long, hands}
 use Rattle.query.proofs.calc_path_multiple_sources_and_targets.Goals as goal
 

@@ -1,7 +1,5 @@
 -- Each return is the first row that is met, by the tests that led there.
 use mathlib.Core.Path.{sym, ◌∙◌}
-use borrow.Author.Rules.{rules}
-use borrow.Author.Tests.{not-true, not-false}
 use Rattle.query.proofs.FirstMet.{row_21, row_21_targets, row_22, row_22_targets, row_23, row_23_targets, ends_good}
 use Rattle.query.proofs.ends_refusal.Goals as goal
 

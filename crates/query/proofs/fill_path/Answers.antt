@@ -1,5 +1,4 @@
 -- The answer's parts go where they are lent.
-use borrow.Author.Rules.{rules}
 use Rattle.query.proofs.fill_path.Goals as goal
 
 pub returns : goal.returns

@@ -1,6 +1,5 @@
 -- The walk is counted into an empty part of the path; where it fits, it is written.
 use native.Mathlib.Omega.{arith}
-use borrow.Author.Rules.{rules}
 use Rattle.query.proofs.Handing.{too_long, tells_walk, ascent, extracting}
 use Rattle.query.proofs.hand_back.Goals as goal
 

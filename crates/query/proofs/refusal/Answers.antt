@@ -1,6 +1,5 @@
 -- Each return is the first row that is met, by the tests that led there.
 use mathlib.Core.Path.{sym, ◌∙◌}
-use borrow.Author.Rules.{rules}
 use Rattle.rules.specs.Columns.{forward, backward, table}
 use Rattle.query.proofs.FirstMet.{table_rules, tables_broken, ends_bad, room_bad, room_good}
 use Rattle.query.proofs.refusal.Goals as goal

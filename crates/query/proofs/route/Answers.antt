@@ -1,6 +1,5 @@
 -- A query that is not refused is searched, and what the search found is handed back.
 use native.Mathlib.Omega.{arith}
-use borrow.Author.Rules.{rules}
 use Rattle.rules.specs.Columns.{begin}
 use Rattle.rules.specs.TableRules.{used}
 use Rattle.query.proofs.Found.{searching, none_found, handing, walk_found}

@@ -1,5 +1,4 @@
 -- The sum is compared without being formed.
-use borrow.Author.Rules.{rules}
 use Rattle.turns.proofs.Settling.{less_not, less_by}
 use Rattle.turns.proofs.less.Goals as goal
 

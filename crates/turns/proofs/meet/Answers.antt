@@ -2,7 +2,6 @@
 use mathlib.Core.Path.{◌∙◌, ap}
 use Prim.Native.Nat.{ℕ, ◌+◌}
 use native.Mathlib.Omega.{arith}
-use borrow.Author.Rules.{rules}
 use Rattle.rules.specs.Query.{improve}
 use Rattle.turns.specs.Turning.{of}
 use Rattle.turns.proofs.Settling.{improves_not}

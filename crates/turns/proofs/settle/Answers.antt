@@ -1,6 +1,5 @@
 -- Relaxing, then the mark.
 use native.Mathlib.Omega.{arith}
-use borrow.Author.Rules.{rules}
 use Rattle.turns.proofs.Settling.{settles}
 use Rattle.turns.proofs.settle.Goals as goal
 

@@ -1,21 +1,11 @@
 -- A turn. The outer invariant: labels and best are as at the start, since the item that changes them ends the turn, and what is
 -- left of the turn, from here, is the whole of it. The inner one: what is left of the scan decides as all of it.
-use mathlib.Core.List.{List}
-use mathlib.Core.Path.{◌≡◌, refl, sym, ap, ◌∙◌}
-use Prim.Native.Nat.{ℕ, ◌+◌, ◌-◌, ◌≤◌, ◌<◌}
-use native.Mathlib.Omega.{arith}
-use borrow.Author.Rules.{rules}
-use borrow.Author.Tests.{lt-ltb, le-ltb}
-use lib.Dec.{ltb}
-use lib.ListN.{length, get_or}
+use mathlib.Core.Path.{◌≡◌}
+use Prim.Native.Nat.{◌-◌, ◌≤◌}
 use Rattle.rules.specs.Lists.{range}
-use Rattle.rules.specs.Query.{Best, improve}
-use Rattle.halves.specs.Labels.{stamp, seen, half}
-use Rattle.turns.specs.declared.Best.{Best as Held}
 use Rattle.turns.specs.Turning.{of, Turning}
-use Rattle.turns.proofs.Reading.{lower_by, hit, miss, none_left}
-use Rattle.turns.proofs.Turning.{Going, going_first, done_empty, r_below, starts_long, other_starts_long, ranks_long, scan_neighbour, scan_weight, scan_label, node_below, label_fits, facing_fits, node_small, meeting_fits, next_settled, done_heavy, next_stalled, settling, done_settles}
-use Rattle.turns.proofs.Settling.{settled_stamps}
+use Rattle.turns.proofs.Reading.{lower_by}
+use Rattle.turns.proofs.Turning.{Going}
 use Rattle.turns.proofs.turn.Given as goal
 
 abbrev pub invariant-loop-e : goal.invariant-loop-e
