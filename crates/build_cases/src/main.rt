@@ -4,7 +4,7 @@
 
 ghost use Rattle.std.specs.Prelude.{◌≤◌};
 
-use libc::{STDIN_FILENO, STDOUT_FILENO};
+use std::io;
 
 // The numbers before a build's columns (oracle/README.md, "A build"), by their place from the build's start on. A table has five
 // lengths, one after the other; the weights' rest takes two places.
@@ -380,30 +380,31 @@ fn replay(bytes: &[u8], case: usize) -> Compared {
     )
 }
 
-// 1 for a build that agrees; another is named.
-fn count(i: u64, agree: bool) -> u64
+// A build that does not agree is named.
+fn name_other(rt: &impl Print, i: u64, agree: bool) -> io::Result<()> {
+    if agree {
+        return Ok(());
+    }
+    println!(rt; "not as listed: build {i}")
+}
+
+// 1 for a build that agrees.
+fn count(agree: bool) -> u64
     ensures { result ≤ 1 }
 {
     if agree {
         return 1;
     }
-    io::write_all(STDOUT_FILENO, b"not as listed: build ");
-    io::print_decimal(STDOUT_FILENO, i);
-    io::write_all(STDOUT_FILENO, b"\n");
     0
 }
 
-fn show(builds: u64, agree: u64) {
-    io::print_decimal(STDOUT_FILENO, builds);
-    io::write_all(STDOUT_FILENO, b" builds: ");
-    io::print_decimal(STDOUT_FILENO, agree);
-    io::write_all(
-        STDOUT_FILENO,
-        b" give the list's number and leave every lent place as it says\n",
-    );
+fn show(rt: &impl Print, builds: u64, agree: u64) -> io::Result<()> {
+    println!(rt;
+        "{builds} builds: {agree} give the list's number and leave every lent place as it says"
+    )
 }
 
-fn replay_all(bytes: &[u8]) {
+fn replay_all(rt: &impl Print, bytes: &[u8]) -> io::Result<()> {
     let builds = fixed::number(bytes, 4) as u64;
     let mut at = fixed::past(bytes, 0, 8);
     let mut agree: u64 = 0;
@@ -411,14 +412,15 @@ fn replay_all(bytes: &[u8]) {
     while i < builds {
         let one = replay(bytes, at);
         at = one.at;
-        agree += count(i, one.agree);
+        name_other(rt, i, one.agree)?;
+        agree += count(one.agree);
         i += 1;
     }
-    show(builds, agree);
+    show(rt, builds, agree)
 }
 
-fn main() {
-    let mut space = io::large_buffer();
-    let count = io::read_full(STDIN_FILENO, &mut space);
-    replay_all(&space[..count]);
+fn main(rt: HostRuntime) -> io::Result<()> {
+    let mut space = [0u8; 65536];
+    let count = fixed::read_list(&mut rt.stdin(), &mut space)?;
+    replay_all(&rt, &space[..count])
 }

@@ -7,8 +7,8 @@
 ghost use Rattle.std.specs.Prelude.{◌≤◌};
 
 use fixed::{part, wide_part};
-use libc::{STDIN_FILENO, STDOUT_FILENO};
 use query::Answer;
+use std::io;
 
 // Where the next of the list stands, how many queries there were, and how many checks and queries answered as the list says.
 #[derive(Drop)]
@@ -328,18 +328,14 @@ fn replay(bytes: &[u8], at: usize) -> Replayed
     }
 }
 
-fn show(hierarchies: u64, all: Replayed) {
-    io::print_decimal(STDOUT_FILENO, all.checks);
-    io::write_all(STDOUT_FILENO, b" of ");
-    io::print_decimal(STDOUT_FILENO, hierarchies);
-    io::write_all(STDOUT_FILENO, b" checks and ");
-    io::print_decimal(STDOUT_FILENO, all.agree);
-    io::write_all(STDOUT_FILENO, b" of ");
-    io::print_decimal(STDOUT_FILENO, all.asks);
-    io::write_all(STDOUT_FILENO, b" queries are the list's\n");
+fn show(rt: &impl Print, hierarchies: u64, all: Replayed) -> io::Result<()> {
+    println!(rt;
+        "{} of {hierarchies} checks and {} of {} queries are the list's",
+        all.checks, all.agree, all.asks
+    )
 }
 
-fn replay_all(bytes: &[u8]) {
+fn replay_all(rt: &impl Print, bytes: &[u8]) -> io::Result<()> {
     let hierarchies = fixed::number(bytes, 4) as u64;
     let mut at = fixed::past(bytes, 0, 8);
     let mut asks: u64 = 0;
@@ -355,6 +351,7 @@ fn replay_all(bytes: &[u8]) {
         i += 1;
     }
     show(
+        rt,
         hierarchies,
         Replayed {
             at,
@@ -362,11 +359,11 @@ fn replay_all(bytes: &[u8]) {
             checks,
             agree,
         },
-    );
+    )
 }
 
-fn main() {
-    let mut space = io::large_buffer();
-    let count = io::read_full(STDIN_FILENO, &mut space);
-    replay_all(&space[..count]);
+fn main(rt: HostRuntime) -> io::Result<()> {
+    let mut space = [0u8; 65536];
+    let count = fixed::read_list(&mut rt.stdin(), &mut space)?;
+    replay_all(&rt, &space[..count])
 }

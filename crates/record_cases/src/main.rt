@@ -5,7 +5,7 @@
 ghost use Rattle.std.specs.Prelude.{◌≤◌};
 
 use fixed::byte_part;
-use libc::{STDIN_FILENO, STDOUT_FILENO};
+use std::io;
 
 // Where the next of the list stands, and 1 where this one's lines are the list's.
 #[derive(Drop)]
@@ -59,17 +59,11 @@ fn replay(bytes: &[u8], at: usize) -> Replayed
     }
 }
 
-fn show(cases: u64, agree: u64) {
-    io::print_decimal(STDOUT_FILENO, agree);
-    io::write_all(STDOUT_FILENO, b" of ");
-    io::print_decimal(STDOUT_FILENO, cases);
-    io::write_all(
-        STDOUT_FILENO,
-        b" inputs are answered with the list's lines\n",
-    );
+fn show(rt: &impl Print, cases: u64, agree: u64) -> io::Result<()> {
+    println!(rt; "{agree} of {cases} inputs are answered with the list's lines")
 }
 
-fn replay_all(bytes: &[u8]) {
+fn replay_all(rt: &impl Print, bytes: &[u8]) -> io::Result<()> {
     let cases = fixed::number(bytes, 4) as u64;
     let mut at = fixed::past(bytes, 0, 8);
     let mut agree: u64 = 0;
@@ -80,11 +74,11 @@ fn replay_all(bytes: &[u8]) {
         agree += one.agree;
         i += 1;
     }
-    show(cases, agree);
+    show(rt, cases, agree)
 }
 
-fn main() {
-    let mut space = io::large_buffer();
-    let count = io::read_full(STDIN_FILENO, &mut space);
-    replay_all(&space[..count]);
+fn main(rt: HostRuntime) -> io::Result<()> {
+    let mut space = [0u8; 65536];
+    let count = fixed::read_list(&mut rt.stdin(), &mut space)?;
+    replay_all(&rt, &space[..count])
 }
