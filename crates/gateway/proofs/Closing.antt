@@ -1,7 +1,7 @@
 -- The line of a build, and what follows it.
 use mathlib.Core.List.{List, ◌++◌}
 use mathlib.Core.Path.{◌≡◌, refl}
-use Prim.Native.Nat.{ℕ, zero, suc, ◌+◌}
+use Prim.Native.Nat.{ℕ, zero, suc}
 use lib.ListN.{get_or}
 use Rattle.rules.specs.Columns.{Hierarchy, begin}
 use Rattle.rules.specs.TableRules.{used}

@@ -1,7 +1,6 @@
 -- A refusal's line and no more; or the counts, and the records after the build.
 use native.Mathlib.Omega.{arith}
 use Rattle.gateway.proofs.Closing.{stop_fits, stop_wrote, counts_fit, onward_fits, go_wrote}
-use borrow.Author.Rules.{rules}
 use Rattle.gateway.proofs.after_build.Goals as goal
 
 pub refused_line-requires : goal.refused_line-requires

@@ -1,11 +1,6 @@
 -- Each turn writes a line and goes a record on.
-use mathlib.Core.Path.{◌∙◌}
-use Prim.Native.Nat.{◌-◌}
 use native.Mathlib.Omega.{arith}
-use lib.ListN.{length}
-use borrow.Author.Rules.{rules}
-use Rattle.tables.specs.Lent.{columns, lent}
-use Rattle.gateway.proofs.Saying.{Said, says_nothing, ends, bad_fits, ends_badly, line_fits, says_more}
+use Rattle.gateway.proofs.Saying.{says_nothing, ends, bad_fits, ends_badly, line_fits, says_more}
 use Rattle.gateway.proofs.answer_all.Goals as goal
 
 pub loop-at-init : goal.loop-at-init

@@ -1,7 +1,6 @@
 -- A refusal's line, or the route's.
 use Rattle.query.proofs.Handing.{part_long}
 use Rattle.gateway.proofs.Asking.{refuses_fits, refuses, finds_fits, finds, counted}
-use borrow.Author.Rules.{rules}
 use Rattle.gateway.proofs.answer_record.Goals as goal
 
 pub refused_line-requires : goal.refused_line-requires

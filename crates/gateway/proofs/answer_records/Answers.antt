@@ -2,7 +2,6 @@
 use mathlib.Core.Path.{sym, ◌∙◌}
 use native.Mathlib.Omega.{arith}
 use Rattle.gateway.proofs.Finishing.{all_fits, is_too_long, is_bad}
-use borrow.Author.Rules.{rules}
 use Rattle.gateway.proofs.answer_records.Goals as goal
 
 pub too_long-requires : goal.too_long-requires

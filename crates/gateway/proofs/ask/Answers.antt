@@ -2,7 +2,6 @@
 use mathlib.Core.Path.{sym}
 use native.Mathlib.Omega.{arith}
 use Rattle.gateway.proofs.Asking.{front_long, asked}
-use borrow.Author.Rules.{rules}
 use Rattle.gateway.proofs.ask.Goals as goal
 
 pub slice_bounds-fill_path-end-5 : goal.slice_bounds-fill_path-end-5

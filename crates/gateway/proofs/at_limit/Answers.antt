@@ -1,6 +1,5 @@
 -- The program's own limits come before the build.
 use Rattle.gateway.proofs.Limiting.{one_fits, one_wrote, two_fits, two_wrote, limited, limits}
-use borrow.Author.Rules.{rules}
 use Rattle.gateway.proofs.at_limit.Goals as goal
 
 pub refused_line-requires : goal.refused_line-requires

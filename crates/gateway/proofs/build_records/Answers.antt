@@ -4,7 +4,6 @@ use native.Mathlib.Omega.{arith}
 use Rattle.rules.specs.Program.{blank_table}
 use Rattle.gateway.proofs.Asking.{zeroes, front_long}
 use Rattle.gateway.proofs.Building.{closed, followed}
-use borrow.Author.Rules.{rules}
 use Rattle.gateway.proofs.build_records.Goals as goal
 
 pub slice_bounds-build_with_order-end-16 : goal.slice_bounds-build_with_order-end-16

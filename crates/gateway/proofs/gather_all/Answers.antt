@@ -1,6 +1,5 @@
 -- What was gathered is built, unless another record stands there.
 use Rattle.gateway.proofs.Finishing.{tails_long, heads_long, weights_long, order_long, bad_fits, bad_wrote, at_limit, limit_wrote}
-use borrow.Author.Rules.{rules}
 use Rattle.gateway.proofs.gather_all.Goals as goal
 
 pub bad_record-requires : goal.bad_record-requires

@@ -1,5 +1,4 @@
 -- One call: what it tells stands before the lent slices came back, and each is as long as it was.
-use borrow.Author.Rules.{rules}
 use Rattle.ratmanoep.proofs.ratmanoep_build_with_order.Goals as goal
 
 pub returns : goal.returns

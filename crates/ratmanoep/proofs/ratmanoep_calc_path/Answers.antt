@@ -1,5 +1,4 @@
 -- One call: what it tells stands before the lent slices came back.
-use borrow.Author.Rules.{rules}
 use Rattle.ratmanoep.proofs.ratmanoep_calc_path.Goals as goal
 
 pub returns : goal.returns

@@ -1,8 +1,6 @@
 -- The invariant: the rounds that are left, from here, are all of them from the start.
 use native.Mathlib.Omega.{arith}
-use Rattle.turns.specs.Turning.{of}
-use Rattle.rounds.specs.Rounds.{Running}
-use Rattle.rounds.proofs.Going.{Going, going_first, rounding, some_fuel, going_on, done}
+use Rattle.rounds.proofs.Going.{going_first, rounding, some_fuel, going_on, done}
 use Rattle.rounds.proofs.rounds.Goals as goal
 
 pub loop-f-init : goal.loop-f-init

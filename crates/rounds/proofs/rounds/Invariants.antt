@@ -1,8 +1,7 @@
 -- The invariant: the rounds that are left, from here, are all of them from the start.
-use native.Mathlib.Omega.{arith}
 use Rattle.turns.specs.Turning.{of}
 use Rattle.rounds.specs.Rounds.{Running}
-use Rattle.rounds.proofs.Going.{Going, going_first, rounding, some_fuel, going_on, done}
+use Rattle.rounds.proofs.Going.{Going}
 use Rattle.rounds.proofs.rounds.Given as goal
 
 abbrev pub invariant-loop-f : goal.invariant-loop-f
