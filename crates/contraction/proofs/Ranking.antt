@@ -27,7 +27,7 @@ use Rattle.graph.proofs.Reading.{own_walk, outs_walk, own_arcs, reads_outs, read
 use Rattle.search.specs.Searching.{Lent}
 use Rattle.node_contractor.specs.declared.Work.{Work}
 use Rattle.node_contractor.specs.declared.Contracted.{Contracted}
-use Rattle.node_contractor.specs.declared.Contracted.TheVariants.{Went as Contracted-as-Went, Refused as Contracted-as-Refused}
+use Rattle.node_contractor.specs.declared.Contracted.TheVariants.{Went as contracted_went, Refused as contracted_refused}
 use Rattle.node_contractor.specs.Promises.{Contractible, Contracts}
 use Rattle.entries.specs.Laid.{side_of, part_of, laid_part}
 use Rattle.entries.specs.Promises.{Layable, Lays}
@@ -296,14 +296,14 @@ module _ {g : Given} {b : Building} {vs : List ℕ} {limit pool r v : ℕ} {t : 
       enough_in : more c v b backward ≤ room g.lent.backward
       enough_in = omega (arith, more_in, backward_long, backward_within)
 
-      pub step_stopped : {t'' : Parts} {m'' : Lent} {w : Contracted} → Contracts m m'' pool x v limit w → (k : ℕ) → w ≡ Contracted-as-Refused k →
+      pub step_stopped : {t'' : Parts} {m'' : Lent} {w : Contracted} → Contracts m m'' pool x v limit w → (k : ℕ) → w ≡ contracted_refused k →
           Came c (rank_step c v b) t'' m'' (Refused k)
       step_stopped contracts k e =
           stopped (step_stops c v b enough_out enough_in k ((contracts g.nodes b.graph contractible).no k e))
 
       module _ {t' : Parts}
           (laid_out : Lays m.arcs m.weights 0 (get_or m.nodes (4 * v) 0) v r fwd t.forward t'.forward)
-          (Laid-in : Lays m.arcs m.weights 1 (get_or m.nodes (4 * v + 2) 0) v r bwd t.backward t'.backward) where
+          (laid_in : Lays m.arcs m.weights 1 (get_or m.nodes (4 * v + 2) 0) v r bwd t.backward t'.backward) where
         all_laid : t' ≡ laid_parts (with_level b.levels v b.graph) g.lent
         unfolding laid_parts side_of
         all_laid =
@@ -311,11 +311,11 @@ module _ {g : Given} {b : Building} {vs : List ℕ} {limit pool r v : ℕ} {t : 
             laid_out m.nodes _ layable_forward b.levels level (part_of g.lent.forward) forward_laid (sym p.rank) p.at.fwd_count.is refl refl
             in
             let k : t'.backward ≡ laid_part backward (with_level b.levels v b.graph) (part_of g.lent.backward) =
-            Laid-in m.nodes _ layable_backward b.levels level (part_of g.lent.backward) backward_laid (sym p.rank) p.at.bwd_count.is refl refl
+            laid_in m.nodes _ layable_backward b.levels level (part_of g.lent.backward) backward_laid (sym p.rank) p.at.bwd_count.is refl refl
             in
             λ i. parts (f i) (k i)
 
-        pub step_came : {m' : Lent} {w : Contracted} → Contracts m m' pool x v limit w → (y : Work) → w ≡ Contracted-as-Went y →
+        pub step_came : {m' : Lent} {w : Contracted} → Contracts m m' pool x v limit w → (y : Work) → w ≡ contracted_went y →
             Came c (rank_step c v b) t' m' (Went y (fwd + out) (bwd + into))
         step_came contracts y e =
             let done = (contracts g.nodes b.graph contractible).came y e in

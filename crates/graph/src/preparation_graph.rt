@@ -2,7 +2,7 @@
 ghost use Rattle.std.specs.Prelude.{◌≡◌, List, [], ◌∷◌, ◌++◌, ℕ, ◌+◌, ◌*◌, ◌-◌, ◌<◌, ◌≤◌, length};
 ghost use Rattle.rules.specs.Numbers.{invalid};
 ghost use Rattle.graph.specs.declared.preparation_graph.Pool.{Pool as State};
-ghost use Rattle.rules.specs.Graph.{Arc, add_or_reduce, disconnect as without-node};
+ghost use Rattle.rules.specs.Graph.{Arc, add_or_reduce, disconnect as without_node};
 ghost use Rattle.lists.specs.Memory.{memory, first, arc};
 ghost use Rattle.graph.specs.Stands.{Stands};
 ghost use Rattle.rules.specs.Build.{graph_of};
@@ -138,7 +138,7 @@ fn remove_side(arcs: &mut [u32], nodes: &mut [u32], side: usize, node: usize, fr
 pub fn disconnect(arcs: &mut [u32], nodes: &mut [u32], state: Pool, v: u32) -> Pool
     requires { (n pool : ℕ) × (w : List ℕ) × (g : List Arc) × Stands n pool (memory arcs.old nodes.old) w state g × (v < n) }
     ensures { (n pool : ℕ) (w : List ℕ) (g : List Arc) → Stands n pool (memory arcs.old nodes.old) w state g →
-        v < n → Stands n pool (memory arcs.new nodes.new) w result (without-node g v) }
+        v < n → Stands n pool (memory arcs.new nodes.new) w result (without_node g v) }
 {
     let node = v as usize;
     let free = remove_side(arcs, nodes, 0, node, state.free);

@@ -10,7 +10,7 @@ ghost use Rattle.rules.specs.Query.{query};
 ghost use Rattle.rules.specs.Program.{program};
 ghost use Rattle.input_graph.specs.Given.{links};
 ghost use Rattle.marks.specs.Tables.{table_of, hierarchy};
-ghost use Rattle.contraction.specs.Ranks.{given, call as build-call};
+ghost use Rattle.contraction.specs.Ranks.{given, call as build_call};
 ghost use Rattle.fast_graph_builder.specs.Promises.{answer as built, lengths};
 ghost use Rattle.tables.specs.Lent.{columns, lent};
 ghost use Rattle.path_calculator.specs.Searching.{call as query_call};
@@ -51,7 +51,7 @@ pub extern "C" fn ratmanoep_build_with_order(
     ensures { built result (hierarchy ranks.new
         (table_of fwd_starts.new fwd_bases.new fwd_neighbours.new fwd_weights.new fwd_ins.new fwd_outs.new)
         (table_of bwd_starts.new bwd_bases.new bwd_neighbours.new bwd_weights.new bwd_ins.new bwd_outs.new)) ≡
-        build (build-call (given n (links tails.now heads.now link_weights.now) order.now (hierarchy ranks.old
+        build (build_call (given n (links tails.now heads.now link_weights.now) order.now (hierarchy ranks.old
         (table_of fwd_starts.old fwd_bases.old fwd_neighbours.old fwd_weights.old fwd_ins.old fwd_outs.old)
         (table_of bwd_starts.old bwd_bases.old bwd_neighbours.old bwd_weights.old bwd_ins.old bwd_outs.old))
         (lengths arcs.old weights.old nodes.old labels.old heap.old)) limit pool) }

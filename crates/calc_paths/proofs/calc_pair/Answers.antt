@@ -13,4 +13,4 @@ pub route-requires : goal.route-requires
 route-requires c = routing _ _ _ _ _ _ _ _ _ _ c.requires c.if-n-source.false c.if-n-target.false
 
 pub returns : goal.returns
-returns c = paired _ _ _ _ _ _ c.requires.checked c.requires.places c.if-n-source.false c.if-n-target.false ((search rules)) c.route.ensures
+returns c = paired _ _ _ _ _ _ c.requires.checked c.requires.places c.if-n-source.false c.if-n-target.false (search rules) c.route.ensures

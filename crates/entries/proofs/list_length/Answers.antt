@@ -12,7 +12,7 @@ left : (c : At-loop-place) → let a = c.args in Counted a.arcs.now (3 + a.side)
 left c = let p = c.requires.1 in c.loop-place.invariant p.0 p.1
 
 room : (c : In-loop-place) → (6 * c.loop-place.place + 6 ≤ length c.args.arcs.now) × (c.args.side < 2)
-room c = (walk_room ((let p = c.requires.1 in c.loop-place.invariant p.0 p.1)).walk c.loop-place-test.true, c.requires.0)
+room c = (walk_room (let p = c.requires.1 in c.loop-place.invariant p.0 p.1).walk c.loop-place-test.true, c.requires.0)
 
 pub loop-place-init : goal.loop-place-init
 loop-place-init c = λ places walk. record { rest = places; walk = walk; sum = omega arith }

@@ -22,7 +22,7 @@ seeking : (c : At-loop-at) →
 seeking c = c.loop-at.invariant.1 c.requires.0 c.requires.1
 
 room : (c : In-loop-at) → 6 * c.loop-at.at + 6 ≤ length c.args.arcs.now
-room c = walk_room ((c.loop-at.invariant.1 c.requires.0 c.requires.1)).walk c.loop-at-test.true
+room c = walk_room (c.loop-at.invariant.1 c.requires.0 c.requires.1).walk c.loop-at-test.true
 
 pub bounds-arcs-i : goal.bounds-arcs-i
 bounds-arcs-i c = omega (arith, room (goal.at.bounds-arcs-i c).In-loop-at)

@@ -21,7 +21,7 @@ ahead : (c : At-loop-at) →
 ahead c = c.loop-at.invariant.2 c.requires.1.0 c.requires.1.1 c.requires.1.2
 
 room : (c : At-loop-at) → 6 * c.loop-at.at + 6 ≤ length c.args.arcs.now
-room c = walk_room ((c.loop-at.invariant.2 c.requires.1.0 c.requires.1.1 c.requires.1.2)).walk (ahead_valid ((c.loop-at.invariant.2 c.requires.1.0 c.requires.1.1 c.requires.1.2)))
+room c = walk_room (c.loop-at.invariant.2 c.requires.1.0 c.requires.1.1 c.requires.1.2).walk (ahead_valid (c.loop-at.invariant.2 c.requires.1.0 c.requires.1.1 c.requires.1.2))
 
 pub bounds-arcs-at : goal.bounds-arcs-at
 bounds-arcs-at c = omega (arith, room (goal.at.bounds-arcs-at c).At-loop-at)

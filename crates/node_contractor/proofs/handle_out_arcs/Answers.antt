@@ -20,10 +20,10 @@ left c = let p = c.requires in c.loop-place.invariant.5 p.0 p.1 p.2 p.3 p.4
 
 -- the place that is read
 room : (c : In-loop-place) → (6 * c.loop-place.place + 6 ≤ length c.loop-place.arcs) × (c.loop-place.place < length c.loop-place.weights)
-room c = left_room (outs_left c.requires.4 ((let p = c.requires in c.loop-place.invariant.5 p.0 p.1 p.2 p.3 p.4))) c.loop-place-test.true
+room c = left_room (outs_left c.requires.4 (let p = c.requires in c.loop-place.invariant.5 p.0 p.1 p.2 p.3 p.4)) c.loop-place-test.true
 
 light : (c : In-loop-place) → get_or c.loop-place.weights c.loop-place.place 0 ≤ max_weight
-light c = (left_fit (outs_left c.requires.4 ((let p = c.requires in c.loop-place.invariant.5 p.0 p.1 p.2 p.3 p.4))) c.loop-place-test.true).light
+light c = (left_fit (outs_left c.requires.4 (let p = c.requires in c.loop-place.invariant.5 p.0 p.1 p.2 p.3 p.4)) c.loop-place-test.true).light
 
 pub overflow_mul-place : goal.overflow_mul-place
 overflow_mul-place c = omega (arith, c.requires.4.midst.standing.stands.placed.nodes_room, c.requires.4.at.node)

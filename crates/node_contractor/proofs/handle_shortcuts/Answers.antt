@@ -17,7 +17,7 @@ left c = let p = c.requires in c.loop-place.invariant.5 p.0 p.1 p.2
 
 -- the place that is read
 room : (c : In-loop-place) → (6 * c.loop-place.place + 6 ≤ length c.loop-place.arcs) × (c.loop-place.place < length c.loop-place.weights)
-room c = left_room (ins_left c.requires.2 ((let p = c.requires in c.loop-place.invariant.5 p.0 p.1 p.2))) c.loop-place-test.true
+room c = left_room (ins_left c.requires.2 (let p = c.requires in c.loop-place.invariant.5 p.0 p.1 p.2)) c.loop-place-test.true
 
 pub overflow_mul-place : goal.overflow_mul-place
 overflow_mul-place c = omega (arith, c.requires.2.entering.resting.standing.stands.placed.nodes_room, c.requires.2.entering.node)

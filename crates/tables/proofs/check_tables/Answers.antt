@@ -20,8 +20,8 @@ shapes c =
     record {
       nodes = c.if-n-gt-MAX_NODES.false;
       places_for_ranks = c.if-ranks-n.false;
-      own_shape = c.shaped.ensures.0 (c.if-not-shaped.false);
-      other_shape = c.shaped-2.ensures.0 (c.if-not-shaped-2.false);
+      own_shape = c.shaped.ensures.0 c.if-not-shaped.false;
+      other_shape = c.shaped-2.ensures.0 c.if-not-shaped-2.false;
     }
 
 pub returns-then-n-gt-MAX_NODES : goal.returns-then-n-gt-MAX_NODES
@@ -32,11 +32,11 @@ returns-then-ranks-n c = broken _ _ (λ k. omega (arith, k.places_for_ranks, c.i
 
 pub returns-then-not-shaped : goal.returns-then-not-shaped
 unfolding table
-returns-then-not-shaped c = broken _ _ (λ k. denied c.shaped.ensures (c.if-not-shaped.true) (shape_of _ _ forward k))
+returns-then-not-shaped c = broken _ _ (λ k. denied c.shaped.ensures c.if-not-shaped.true (shape_of _ _ forward k))
 
 pub returns-then-not-shaped-2 : goal.returns-then-not-shaped-2
 unfolding table
-returns-then-not-shaped-2 c = broken _ _ (λ k. denied c.shaped-2.ensures (c.if-not-shaped-2.true) (shape_of _ _ backward k))
+returns-then-not-shaped-2 c = broken _ _ (λ k. denied c.shaped-2.ensures c.if-not-shaped-2.true (shape_of _ _ backward k))
 
 pub each_once-requires : goal.each_once-requires
 each_once-requires c = (c.if-n-gt-MAX_NODES.false, c.if-ranks-n.false)
@@ -48,17 +48,17 @@ pub entries_pass-requires : goal.entries_pass-requires
 entries_pass-requires c = shapes (goal.at.entries_pass-requires c).Else-not-shaped-2
 
 pub returns-then-not-entries_pass : goal.returns-then-not-entries_pass
-returns-then-not-entries_pass c = broken _ _ (λ k. denied c.entries_pass.ensures (c.if-not-entries_pass.true) (entries_of _ _ forward k))
+returns-then-not-entries_pass c = broken _ _ (λ k. denied c.entries_pass.ensures c.if-not-entries_pass.true (entries_of _ _ forward k))
 
 pub entries_pass-requires-2 : goal.entries_pass-requires-2
 entries_pass-requires-2 c = turned (shapes (goal.at.entries_pass-requires-2 c).Else-not-shaped-2)
 
 pub returns-then-not-entries_pass-2 : goal.returns-then-not-entries_pass-2
-returns-then-not-entries_pass-2 c = broken _ _ (λ k. denied c.entries_pass-2.ensures (c.if-not-entries_pass-2.true) (entries_of _ _ backward k))
+returns-then-not-entries_pass-2 c = broken _ _ (λ k. denied c.entries_pass-2.ensures c.if-not-entries_pass-2.true (entries_of _ _ backward k))
 
 pub returns : goal.returns
 unfolding table
 returns c =
     all_kept _ _ c.if-n-gt-MAX_NODES.false c.if-ranks-n.false (sym c.each_once.ensures ∙ c.if-not-each_once.false)
-    (c.shaped.ensures.0 (c.if-not-shaped.false)) (c.entries_pass.ensures.0 (c.if-not-entries_pass.false))
-    (c.shaped-2.ensures.0 (c.if-not-shaped-2.false)) (c.entries_pass-2.ensures.0 (c.if-not-entries_pass-2.false))
+    (c.shaped.ensures.0 c.if-not-shaped.false) (c.entries_pass.ensures.0 c.if-not-entries_pass.false)
+    (c.shaped-2.ensures.0 c.if-not-shaped-2.false) (c.entries_pass-2.ensures.0 c.if-not-entries_pass-2.false)

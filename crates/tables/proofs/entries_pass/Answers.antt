@@ -36,7 +36,7 @@ pub rank_passes-requires : goal.rank_passes-requires
 rank_passes-requires c = (c.requires, c.loop-r-test.true, stretch_within _ _ _ _ c.requires (side c.args.forward) _ c.loop-r-test.true, c.loop-r.invariant.2)
 
 pub returns-then-not-rank_passes : goal.returns-then-not-rank_passes
-returns-then-not-rank_passes c = no (rank_fails _ _ _ _ c.requires _ _ c.loop-r-test.true c.rank_passes.ensures.0 (c.if-not-rank_passes.true))
+returns-then-not-rank_passes c = no (rank_fails _ _ _ _ c.requires _ _ c.loop-r-test.true c.rank_passes.ensures.0 c.if-not-rank_passes.true)
 
 pub overflow_add-r-in-loop-r : goal.overflow_add-r-in-loop-r
 overflow_add-r-in-loop-r c = omega (arith, c.loop-r-test.true, c.requires.nodes)
@@ -45,7 +45,7 @@ pub loop-r-preserved : goal.loop-r-preserved
 loop-r-preserved c =
     let p = c.requires in (
       omega (arith, c.loop-r-test.true),
-      rank_holds _ _ _ _ p _ _ c.loop-r-test.true c.rank_passes.ensures.0 (c.if-not-rank_passes.false) c.loop-r.invariant.1,
+      rank_holds _ _ _ _ p _ _ c.loop-r-test.true c.rank_passes.ensures.0 c.if-not-rank_passes.false c.loop-r.invariant.1,
       c.rank_passes.ensures.1,
     )
 

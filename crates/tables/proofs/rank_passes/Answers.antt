@@ -49,7 +49,7 @@ passes-requires c = (c.requires.0, c.requires.1)
 pub returns-then-not-passes : goal.returns-then-not-passes
 returns-then-not-passes c =
     let p = c.requires in (
-      no (fails_here _ _ _ _ p.0 _ _ _ _ _ c.passes.ensures c.loop-e.invariant.0 c.loop-e-test.true p.2 (c.if-not-passes.true)),
+      no (fails_here _ _ _ _ p.0 _ _ _ _ _ c.passes.ensures c.loop-e.invariant.0 c.loop-e-test.true p.2 c.if-not-passes.true),
       c.loop-e.invariant.1.marked.most,
     )
 
@@ -57,14 +57,14 @@ returns-then-not-passes c =
 pub bounds-marks-u : goal.bounds-marks-u
 bounds-marks-u c =
     let p = c.requires in
-    neighbour_inside _ _ _ _ p.0 _ _ _ _ _ c.passes.ensures c.loop-e.invariant.0 c.loop-e-test.true p.2 (c.if-not-passes.false)
+    neighbour_inside _ _ _ _ p.0 _ _ _ _ _ c.passes.ensures c.loop-e.invariant.0 c.loop-e-test.true p.2 c.if-not-passes.false
 
 pub overflow_cast-u : goal.overflow_cast-u
 overflow_cast-u c =
     omega (
       arith,
       (let p = c.requires in
-          neighbour_inside _ _ _ _ p.0 _ _ _ _ _ c.passes.ensures c.loop-e.invariant.0 c.loop-e-test.true p.2 (c.if-not-passes.false)),
+          neighbour_inside _ _ _ _ p.0 _ _ _ _ _ c.passes.ensures c.loop-e.invariant.0 c.loop-e-test.true p.2 c.if-not-passes.false),
     )
 
 pub offset_bounds-marks-u : goal.offset_bounds-marks-u
@@ -72,13 +72,13 @@ offset_bounds-marks-u c =
     omega (
       arith,
       (let p = c.requires in
-          neighbour_inside _ _ _ _ p.0 _ _ _ _ _ c.passes.ensures c.loop-e.invariant.0 c.loop-e-test.true p.2 (c.if-not-passes.false)),
+          neighbour_inside _ _ _ _ p.0 _ _ _ _ _ c.passes.ensures c.loop-e.invariant.0 c.loop-e-test.true p.2 c.if-not-passes.false),
     )
 
 pub returns-then-marks-u : goal.returns-then-marks-u
 returns-then-marks-u c =
     let p = c.requires in (
-      no (twin_here _ _ _ _ p.0 _ _ _ _ _ c.passes.ensures c.loop-e.invariant.0 c.loop-e-test.true p.2 (c.if-not-passes.false) _ _ c.loop-e.invariant.1 c.if-marks-u.true),
+      no (twin_here _ _ _ _ p.0 _ _ _ _ _ c.passes.ensures c.loop-e.invariant.0 c.loop-e-test.true p.2 c.if-not-passes.false _ _ c.loop-e.invariant.1 c.if-marks-u.true),
       c.loop-e.invariant.1.marked.most,
     )
 
@@ -87,13 +87,13 @@ offset_bounds-marks-u-in-loop-e c =
     omega (
       arith,
       (let p = c.requires in
-          neighbour_inside _ _ _ _ p.0 _ _ _ _ _ c.passes.ensures c.loop-e.invariant.0 c.loop-e-test.true p.2 (c.if-not-passes.false)),
+          neighbour_inside _ _ _ _ p.0 _ _ _ _ _ c.passes.ensures c.loop-e.invariant.0 c.loop-e-test.true p.2 c.if-not-passes.false),
     )
 
 pub bounds-marks-u-in-loop-e : goal.bounds-marks-u-in-loop-e
 bounds-marks-u-in-loop-e c =
     (let p = c.requires in
-    neighbour_inside _ _ _ _ p.0 _ _ _ _ _ c.passes.ensures c.loop-e.invariant.0 c.loop-e-test.true p.2 (c.if-not-passes.false))
+    neighbour_inside _ _ _ _ p.0 _ _ _ _ _ c.passes.ensures c.loop-e.invariant.0 c.loop-e-test.true p.2 c.if-not-passes.false)
 
 pub overflow_add-e : goal.overflow_add-e
 overflow_add-e c = omega (arith, c.loop-e-test.true)
@@ -102,7 +102,7 @@ pub loop-e-preserved : goal.loop-e-preserved
 loop-e-preserved c =
     let p = c.requires in (
       omega (arith, c.loop-e.invariant.0),
-      holds_here _ _ _ _ p.0 _ _ _ _ _ c.passes.ensures c.loop-e.invariant.0 c.loop-e-test.true p.2 (c.if-not-passes.false) _ _ c.loop-e.invariant.1 c.if-marks-u.false,
+      holds_here _ _ _ _ p.0 _ _ _ _ _ c.passes.ensures c.loop-e.invariant.0 c.loop-e-test.true p.2 c.if-not-passes.false _ _ c.loop-e.invariant.1 c.if-marks-u.false,
     )
 
 pub returns : goal.returns

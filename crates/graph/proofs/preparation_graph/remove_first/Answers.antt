@@ -80,8 +80,8 @@ predecessor-before-requires c =
 before-is : (c : After-predecessor-before) {n pool fresh : ℕ} {w : List ℕ} {g : List Arc} →
     let m = memory c.args.arcs.now c.args.nodes.now in
     (here : Stands n pool m w (state_of c.args.free fresh) g) → c.args.node < n →
-    c.predecessor-before.result ≡ before invalid (first m c.args.side c.args.node) (keep (ends_at m (1 - c.args.side) ((let m = memory c.args.arcs.now c.args.nodes.now in
-    at m (1 - c.args.side) (first m c.args.side c.args.node)))) here.ids)
+    c.predecessor-before.result ≡ before invalid (first m c.args.side c.args.node) (keep (ends_at m (1 - c.args.side) (let m = memory c.args.arcs.now c.args.nodes.now in
+    at m (1 - c.args.side) (first m c.args.side c.args.node))) here.ids)
 before-is c here inside =
     c.predecessor-before.ensures _
     (beyond_walk here c.args.side c.args.node c.requires.0 inside c.requires.1)

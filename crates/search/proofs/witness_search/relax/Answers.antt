@@ -20,8 +20,8 @@ usable : (c : In-loop-place) →
     let a = c.args in
     let r = c.requires in
     Usable r.0.n a.arcs.now a.weights.now c.loop-place.place
-usable c = first_usable ((let r = c.requires in
-    c.loop-place.invariant.2 r.0 r.1 r.2)).relaxing c.loop-place-test.true
+usable c = first_usable (let r = c.requires in
+    c.loop-place.invariant.2 r.0 r.1 r.2).relaxing c.loop-place-test.true
 
 pub loop-place-init : goal.loop-place-init
 loop-place-init c = (refl, refl, λ r s x. rest_all x)
