@@ -10,7 +10,7 @@ pub fill_pair-requires : goal.fill_pair-requires
 fill_pair-requires c = filling _ _ _ _ _ _ _ _ _ c.requires _ _ _ _ _ _ c.loop-k.invariant c.loop-k-test.true
 
 pub overflow_add-k : goal.overflow_add-k
-overflow_add-k c = omega (arith, c.loop-k-test.true, c.well_formed.1.1.1.1.1.1.1.1.1.1.1.1.1.1.0.0)
+overflow_add-k c = omega (arith, c.loop-k-test.true)
 
 pub loop-k-smaller : goal.loop-k-smaller
 loop-k-smaller c = omega (arith, c.loop-k-test.true)
