@@ -19,11 +19,11 @@ bit true = omega arith
 bit false = omega arith
 
 -- the left child, or the right one where the test says that it may leave before
-by-test : (xs : List ℕ) (len i : ℕ) → 2 * len ≤ length xs → 2 * i + 1 + 1 < len → (t : Bool)
+by_test : (xs : List ℕ) (len i : ℕ) → 2 * len ≤ length xs → 2 * i + 1 + 1 < len → (t : Bool)
     → t ≡ leaves_first (item xs (2 * i + 1 + 1)) (item xs (2 * i + 1)) → Leads (items xs len) i (2 * i + 1 + bool_byte t)
-by-test xs len i room h true e =
+by_test xs len i room h true e =
     leads_by xs len room i (2 * i + 1 + 1) (2 * i + 1) (omega arith) (omega arith) h (omega arith) (λ _. sym e)
-by-test xs len i room h false e =
+by_test xs len i room h false e =
     rw add-zero
     (leads_by xs len room i (2 * i + 1) (2 * i + 1 + 1) (omega arith) (omega arith) (omega arith) (omega arith)
     (λ _. first_total (item xs (2 * i + 1 + 1)) (item xs (2 * i + 1)) (sym e)))
@@ -35,5 +35,5 @@ pub returns : goal.returns
 returns c =
     let xs = c.args.heap.now in
     let i = c.args.i in
-    by-test xs c.args.len i c.requires.1 (omega arith) c.first.result
+    by_test xs c.args.len i c.requires.1 (omega arith) c.first.result
     (c.first.ensures ∙ ap (leaves_first (item xs (2 * i + 1 + 1))) c.load.ensures)

@@ -21,18 +21,18 @@ loop-gap-init c = (some (goal.at.loop-gap-init c).Start, moved_not c.requires.1)
 room : (c : At-loop-gap) → 2 * c.args.len ≤ length c.loop-gap.heap
 room c = omega arith
 
-child-inside : (c : After-leading-child) → c.leading-child.result < c.args.len
-child-inside c =
-    leads_inside c.loop-gap.heap c.args.len (room c.before.before) c.leading-child.ensures
+child_inside : (c : After-leading-child) → c.leading-child.result < c.args.len
+child_inside c =
+    leads_inside c.loop-gap.heap c.args.len (omega arith) c.leading-child.ensures
 
 pub shift-requires : goal.shift-requires
-shift-requires c = omega (arith, child-inside (goal.at.shift-requires c).After-leading-child)
+shift-requires c = omega (arith, child_inside (goal.at.shift-requires c).After-leading-child)
 
 pub loop-gap-smaller : goal.loop-gap-smaller
-loop-gap-smaller c = omega (arith, child-inside (goal.at.loop-gap-smaller c).After-leading-child)
+loop-gap-smaller c = omega (arith, child_inside (goal.at.loop-gap-smaller c).After-leading-child)
 
 pub loop-gap-preserved : goal.loop-gap-preserved
-loop-gap-preserved c = (child-inside (goal.at.loop-gap-preserved c).After-leading-child, rw c.shift.ensures (sinks (room (goal.at.loop-gap-preserved c).At-loop-gap) c.loop-gap.invariant.1 c.leading-child.ensures))
+loop-gap-preserved c = (child_inside (goal.at.loop-gap-preserved c).After-leading-child, rw c.shift.ensures (sinks (room (goal.at.loop-gap-preserved c).At-loop-gap) c.loop-gap.invariant.1 c.leading-child.ensures))
 
 pub returns-then-gap-len : goal.returns-then-gap-len
 returns-then-gap-len c =

@@ -19,11 +19,11 @@ find_arc-place-requires c =
     (_, outs_walk r.stands _ r.tail_in)
 
 -- of any graph that stands, what was found
-found-place : (c : After-find_arc-place) {n pool : ℕ} {state : Pool} {g : List Arc} →
+found_place : (c : After-find_arc-place) {n pool : ℕ} {state : Pool} {g : List Arc} →
     let a = c.args in
     (r : Addable n pool (memory a.arcs.now a.nodes.now) a.weights.now state (arc a.tail a.head a.weight a.centre) g) →
     c.find_arc-place.result ≡ place r.stands (arc a.tail a.head a.weight a.centre)
-found-place c r = c.find_arc-place.ensures _ (outs_walk r.stands _ r.tail_in)
+found_place c r = c.find_arc-place.ensures _ (outs_walk r.stands _ r.tail_in)
 
 room : (c : Else-place) →
     let a = c.args in
@@ -35,7 +35,7 @@ room c =
     rw e (place_room r.stands (arc a.tail a.head a.weight a.centre) (λ h. c.if-place.false (e ∙ h)))
 
 pub returns-then-place : goal.returns-then-place
-returns-then-place c n pool state g r = reduces_none r.stands _ (sym (found-place (goal.at.returns-then-place c).After-find_arc-place r) ∙ c.if-place.true)
+returns-then-place c n pool state g r = reduces_none r.stands _ (sym (found_place (goal.at.returns-then-place c).After-find_arc-place r) ∙ c.if-place.true)
 
 pub bounds-weights-at : goal.bounds-weights-at
 bounds-weights-at c = (room (goal.at.bounds-weights-at c).Else-place).1
@@ -48,10 +48,10 @@ bounds-arcs-at c = omega (arith, (room (goal.at.bounds-arcs-at c).Else-place).0)
 
 pub returns-then-weight-weights : goal.returns-then-weight-weights
 returns-then-weight-weights c n pool state g r =
-    let e = found-place (goal.at.returns-then-weight-weights c).After-find_arc-place r in
+    let e = found_place (goal.at.returns-then-weight-weights c).After-find_arc-place r in
     rw e (reduces_it r.stands _ (λ h. c.if-place.false (e ∙ h)) (rw e at c.if-weight-weights.true))
 
 pub returns-else-weight-weights : goal.returns-else-weight-weights
 returns-else-weight-weights c n pool state g r =
-    let e = found-place (goal.at.returns-else-weight-weights c).After-find_arc-place r in
+    let e = found_place (goal.at.returns-else-weight-weights c).After-find_arc-place r in
     reduces_not r.stands _ (λ h. c.if-place.false (e ∙ h)) (rw e at c.if-weight-weights.false)

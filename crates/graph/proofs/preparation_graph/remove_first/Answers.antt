@@ -26,14 +26,14 @@ far s =
     let m = memory s.args.arcs.now s.args.nodes.now in
     at m (1 - s.args.side) (first m s.args.side s.args.node)
 
-far-room : (s : Start) → 4 * (let m = memory s.args.arcs.now s.args.nodes.now in
+far_room : (s : Start) → 4 * (let m = memory s.args.arcs.now s.args.nodes.now in
     at m (1 - s.args.side) (first m s.args.side s.args.node)) + 4 ≤ length s.args.nodes.now
-far-room s =
+far_room s =
     let k = s.requires.2 in
     omega (arith, far_inside k.stands s.args.side s.args.node s.requires.0 k.inside s.requires.1, k.stands.placed.nodes_room)
 
-near-room : (s : Start) → 4 * s.args.node + 4 ≤ length s.args.nodes.now
-near-room s = omega (arith, s.requires.2.inside, s.requires.2.stands.placed.nodes_room)
+near_room : (s : Start) → 4 * s.args.node + 4 ≤ length s.args.nodes.now
+near_room s = omega (arith, s.requires.2.inside, s.requires.2.stands.placed.nodes_room)
 
 pub overflow_cast-far : goal.overflow_cast-far
 overflow_cast-far c = omega (arith, room (goal.at.overflow_cast-far c).Start)
@@ -51,19 +51,19 @@ pub bounds-arcs-place : goal.bounds-arcs-place
 bounds-arcs-place c = omega (arith, room (goal.at.bounds-arcs-place c).Start)
 
 pub overflow_cast-far-2 : goal.overflow_cast-far-2
-overflow_cast-far-2 c = omega (arith, far-room (goal.at.overflow_cast-far-2 c).Start)
+overflow_cast-far-2 c = omega (arith, far_room (goal.at.overflow_cast-far-2 c).Start)
 
 pub overflow_mul-far-2 : goal.overflow_mul-far-2
-overflow_mul-far-2 c = omega (arith, far-room (goal.at.overflow_mul-far-2 c).Start)
+overflow_mul-far-2 c = omega (arith, far_room (goal.at.overflow_mul-far-2 c).Start)
 
 pub overflow_add-far-2 : goal.overflow_add-far-2
-overflow_add-far-2 c = omega (arith, far-room (goal.at.overflow_add-far-2 c).Start)
+overflow_add-far-2 c = omega (arith, far_room (goal.at.overflow_add-far-2 c).Start)
 
 pub offset_bounds-nodes-far : goal.offset_bounds-nodes-far
-offset_bounds-nodes-far c = omega (arith, far-room (goal.at.offset_bounds-nodes-far c).Start)
+offset_bounds-nodes-far c = omega (arith, far_room (goal.at.offset_bounds-nodes-far c).Start)
 
 pub bounds-nodes-far : goal.bounds-nodes-far
-bounds-nodes-far c = omega (arith, far-room (goal.at.bounds-nodes-far c).Start)
+bounds-nodes-far c = omega (arith, far_room (goal.at.bounds-nodes-far c).Start)
 
 pub predecessor-before-requires : goal.predecessor-before-requires
 predecessor-before-requires c =
@@ -77,12 +77,12 @@ predecessor-before-requires c =
     )
 
 -- what `predecessor` found is what stands before the place, of any graph that stands
-before-is : (c : After-predecessor-before) {n pool fresh : ℕ} {w : List ℕ} {g : List Arc} →
+before_is : (c : After-predecessor-before) {n pool fresh : ℕ} {w : List ℕ} {g : List Arc} →
     let m = memory c.args.arcs.now c.args.nodes.now in
     (here : Stands n pool m w (state_of c.args.free fresh) g) → c.args.node < n →
     c.predecessor-before.result ≡ before invalid (first m c.args.side c.args.node) (keep (ends_at m (1 - c.args.side) (let m = memory c.args.arcs.now c.args.nodes.now in
     at m (1 - c.args.side) (first m c.args.side c.args.node))) here.ids)
-before-is c here inside =
+before_is c here inside =
     c.predecessor-before.ensures _
     (beyond_walk here c.args.side c.args.node c.requires.0 inside c.requires.1)
     (in_beyond here c.args.side c.args.node c.requires.0 inside c.requires.1)
@@ -90,13 +90,13 @@ before-is c here inside =
 pub unlink-requires : goal.unlink-requires
 unlink-requires c =
     let k = c.requires.2 in (
-      far_open k.stands c.args.side c.args.node c.requires.0 k.inside c.requires.1 _ (before-is (goal.at.unlink-requires c).After-predecessor-before k.stands k.inside),
+      far_open k.stands c.args.side c.args.node c.requires.0 k.inside c.requires.1 _ (before_is (goal.at.unlink-requires c).After-predecessor-before k.stands k.inside),
       room (goal.at.unlink-requires c).Start,
     )
 
 pub unlink-requires-2 : goal.unlink-requires-2
 unlink-requires-2 c = (
-  record { side = c.requires.0; node = omega (arith, near-room (goal.at.unlink-requires-2 c).Start, c.unlink.auto.nodes); place = λ h. absurd (h refl) },
+  record { side = c.requires.0; node = omega (arith, near_room (goal.at.unlink-requires-2 c).Start, c.unlink.auto.nodes); place = λ h. absurd (h refl) },
   omega (arith, room (goal.at.unlink-requires-2 c).Start, c.unlink.auto.arcs),
 )
 
@@ -123,4 +123,4 @@ returns c n pool fresh w g here inside =
     let p = first m a.side a.node in
     let done = c.unlink-2.ensures ∙ ap (λ (m : Memory). unlink m a.side a.node p invalid) c.unlink.ensures in
     rw (ap (λ (m : Memory). set_at m 5 p a.free) done)
-    (stands_removed here a.side a.node c.requires.0 inside c.requires.1 c.predecessor-before.result (before-is (goal.at.returns c).After-predecessor-before here inside))
+    (stands_removed here a.side a.node c.requires.0 inside c.requires.1 c.predecessor-before.result (before_is (goal.at.returns c).After-predecessor-before here inside))

@@ -14,10 +14,10 @@ pub loop-nodes-init : goal.loop-nodes-init
 loop-nodes-init c = let a = c.args in (refl, refl, fewer_not a.side a.node)
 
 -- the graph that the caller knows of, as it is now
-now-some : (c : At-loop-nodes) →
+now_some : (c : At-loop-nodes) →
     let a = c.args in
     HoldsSome (memory c.loop-nodes.arcs c.loop-nodes.nodes) c.loop-nodes.freed a.node
-now-some c = fewer_holds c.args.side c.args.node c.loop-nodes.invariant.2 c.requires.1
+now_some c = fewer_holds c.args.side c.args.node c.loop-nodes.invariant.2 c.requires.1
 
 room : (c : At-loop-nodes) → 4 * c.args.node + 4 ≤ length c.loop-nodes.nodes
 room c = let k = (let s = c in fewer_holds s.args.side s.args.node c.loop-nodes.invariant.2 s.requires.1) in omega (arith, k.inside, k.stands.placed.nodes_room)
@@ -38,11 +38,11 @@ pub bounds-nodes-node : goal.bounds-nodes-node
 bounds-nodes-node c = omega (arith, room (goal.at.bounds-nodes-node c).At-loop-nodes, c.requires.0)
 
 pub remove_first-freed-requires : goal.remove_first-freed-requires
-remove_first-freed-requires c = (c.requires.0, c.loop-nodes-test.true, now-some (goal.at.remove_first-freed-requires c).At-loop-nodes)
+remove_first-freed-requires c = (c.requires.0, c.loop-nodes-test.true, now_some (goal.at.remove_first-freed-requires c).At-loop-nodes)
 
 pub loop-nodes-smaller : goal.loop-nodes-smaller
 loop-nodes-smaller c =
-    let k = now-some (goal.at.loop-nodes-smaller c).At-loop-nodes in
+    let k = now_some (goal.at.loop-nodes-smaller c).At-loop-nodes in
     let drops = c.remove_first-freed.ensures in
     removed_nearer c.args.side c.args.node c.requires.0 k.inside k.stands
     (drops k.nodes k.pool k.fresh k.weights k.graph k.stands k.inside) c.loop-nodes-test.true
