@@ -51,7 +51,7 @@ const WEIGHT_REST: u32 = 27;
 const COLUMNS: u32 = 29;
 
 // Where the list goes on, and whether all agreed so far.
-#[derive(Drop)]
+#[derive(Clone, Copy)]
 struct Compared {
     at: usize,
     agree: bool,

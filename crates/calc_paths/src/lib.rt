@@ -118,7 +118,8 @@ fn calc_pair(
             count: 0,
         };
     }
-    if n <= target as usize {
+    let outside = n <= target as usize;
+    if outside {
         return Answer {
             number: 22,
             weight: WEIGHT_MAX,

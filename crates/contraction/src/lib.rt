@@ -15,7 +15,7 @@ use graph::preparation_graph::Added;
 use node_contractor::{Contracted, Work};
 
 // What a step comes to: the entries so far of either table, or a refusal, whose number this is.
-#[derive(Drop)]
+#[derive(Clone, Copy)]
 pub enum Ranked {
     Went(Work, usize, usize),
     Refused(u32),

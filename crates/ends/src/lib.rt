@@ -42,7 +42,8 @@ pub fn all_below(n: usize, nodes: &[u32]) -> bool
 fn offset_fits(offset: u64) -> bool
     ensures { result ≡ offset_fits offset }
 {
-    if offset <= rules::MAX_WEIGHT {
+    let light = offset <= rules::MAX_WEIGHT;
+    if light {
         return true;
     }
     offset == WEIGHT_MAX

@@ -26,7 +26,7 @@ fn get_edge_id(starts: &[u32], neighbours: &[u32], r: u32, u: u32) -> u32
 }
 
 // The two numbers of an entry.
-#[derive(Drop)]
+#[derive(Clone, Copy)]
 struct Numbers {
     into: u32,
     out: u32,

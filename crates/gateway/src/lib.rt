@@ -198,7 +198,8 @@ fn after_build(
     requires { Closed input.now «at» n number (lent ranks.now (columns fs.now fb.now fm.now fw.now fi.now fo.now) (columns bs.now bb.now bm.now bw.now bi.now bo.now)) }
     ensures { Wrote out.old 0 (after input.now «at» n (answer number (lent ranks.now (columns fs.now fb.now fm.now fw.now fi.now fo.now) (columns bs.now bb.now bm.now bw.now bi.now bo.now)))) result out.new }
 {
-    if number != 0 {
+    let refused = number != 0;
+    if refused {
         return refused_line(out, 0, number);
     }
     let end = built_line(out, 0, fs[n], bs[n]);

@@ -7,7 +7,7 @@ ghost use Rattle.gather.specs.Gathering.{Rooms, Gathering, More, Begun, Done, Li
 use records::{kind_at, u16_at, u32_at};
 
 // How many links and order entries there are, and the offset of the next record.
-#[derive(Drop)]
+#[derive(Clone, Copy)]
 pub struct Gathered {
     pub links: usize,
     pub orders: usize,
@@ -48,7 +48,8 @@ fn gather_record(
     let kind = kind_at(input, at);
     match kind {
         2 => {
-            if orders != 0 {
+            let late = orders != 0;
+            if late {
                 return g;
             }
             put_link(input, at, links, tails, heads, weights);

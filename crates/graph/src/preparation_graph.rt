@@ -13,14 +13,14 @@ use lists::{find_arc, predecessor, put_arc, unlink};
 use rules::INVALID;
 
 // What goes with the slices: the first of the freed places, and how many places were ever used.
-#[derive(Drop)]
+#[derive(Clone, Copy)]
 pub struct Pool {
     pub free: u32,
     pub fresh: u32,
 }
 
 // What adding an arc answers: it is there, or no place is left.
-#[derive(Drop)]
+#[derive(Clone, Copy)]
 pub enum Added {
     Arc(Pool),
     Full,

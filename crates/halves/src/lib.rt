@@ -12,7 +12,7 @@ ghost use Rattle.halves.specs.Promises.{Offering, Offers, Relaxing, Relaxes, Ent
 
 use rules::{INVALID, WEIGHT_MAX};
 
-#[derive(Drop)]
+#[derive(Clone, Copy)]
 pub struct Label {
     pub weight: u64,
     pub parent: u64,

@@ -12,14 +12,14 @@ use rules::{INVALID, MAX_WEIGHT};
 use search::witness_search::WitnessSearch;
 
 // What goes with the slices: where the pool's places stand, and the search.
-#[derive(Drop)]
+#[derive(Clone, Copy)]
 pub struct Work {
     pub state: Pool,
     pub search: WitnessSearch,
 }
 
 // What a step comes to: it went, or it met a refusal, whose number this is.
-#[derive(Drop)]
+#[derive(Clone, Copy)]
 pub enum Contracted {
     Went(Work),
     Refused(u32),
@@ -42,7 +42,8 @@ fn add_shortcut(
     ensures { (labels heap : List ℕ) (limit : ℕ) → Adds (lent arcs.old weights.old nodes.old labels heap)
         (lent arcs.new weights.new nodes.new labels heap) pool work v tail head sum limit result }
 {
-    if MAX_WEIGHT < sum {
+    let heavy = MAX_WEIGHT < sum;
+    if heavy {
         if graph::preparation_graph::reduce_edge(arcs, weights, nodes, tail, head, sum, v) {
             return Contracted::Went(work);
         }
@@ -81,7 +82,8 @@ fn handle_pair(
     ensures { Pairs (lent arcs.old weights.old nodes.old labels.old heap.old)
         (lent arcs.new weights.new nodes.new labels.new heap.new) pool work v tail head sum limit result }
 {
-    if tail == head {
+    let same = tail == head;
+    if same {
         return Contracted::Went(work);
     }
     let state = work.state;
@@ -91,7 +93,8 @@ fn handle_pair(
     );
     let search = found.search;
     let after = Work { state, search };
-    if found.weight <= sum {
+    let witness = found.weight <= sum;
+    if witness {
         return Contracted::Went(after);
     }
     add_shortcut(arcs, weights, nodes, pool, after, v, tail, head, sum)

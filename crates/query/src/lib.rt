@@ -117,7 +117,7 @@ pub fn refusal(
 }
 
 // A query's number and weight, and how many places of the path are the walk.
-#[derive(Drop)]
+#[derive(Clone, Copy)]
 pub struct Answer {
     pub number: u32,
     pub weight: u64,

@@ -11,7 +11,7 @@ use query::Answer;
 use std::io;
 
 // Where the next of the list stands, how many queries there were, and how many checks and queries answered as the list says.
-#[derive(Drop)]
+#[derive(Clone, Copy)]
 struct Replayed {
     at: usize,
     asks: u64,
@@ -20,7 +20,7 @@ struct Replayed {
 }
 
 // What stands before a query's columns: how many ends there are, the places of the path and what fills them, and what is answered.
-#[derive(Drop)]
+#[derive(Clone, Copy)]
 struct Listed {
     sources: u32,
     targets: u32,

@@ -8,7 +8,7 @@ use fixed::byte_part;
 use std::io;
 
 // Where the next of the list stands, and 1 where this one's lines are the list's.
-#[derive(Drop)]
+#[derive(Clone, Copy)]
 struct Replayed {
     at: usize,
     agree: u64,

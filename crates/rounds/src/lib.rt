@@ -7,7 +7,7 @@ ghost use Rattle.rounds.specs.Rounds.{Rounding, Rounded, Running, Ran};
 use turns::{Best, turn};
 
 // Where a round leaves both heaps, and the best sum.
-#[derive(Drop)]
+#[derive(Clone, Copy)]
 pub struct Lengths {
     pub fwd: usize,
     pub bwd: usize,

@@ -11,7 +11,7 @@ ghost use Rattle.search.specs.Promises.{Some, Offering, Offered, Crossed, Relaxi
 use rules::{INVALID, WEIGHT_MAX};
 
 // What lasts over all targets of one start, which avoids one node: `len` entries are in the heap, `settled` nodes were settled.
-#[derive(Drop)]
+#[derive(Clone, Copy)]
 pub struct WitnessSearch {
     pub base: u64,
     pub len: usize,
@@ -20,14 +20,14 @@ pub struct WitnessSearch {
 }
 
 // The answer, and the search for the next target.
-#[derive(Drop)]
+#[derive(Clone, Copy)]
 pub struct Found {
     pub weight: u64,
     pub search: WitnessSearch,
 }
 
 // Where one step leaves a search, and whether it goes on.
-#[derive(Drop)]
+#[derive(Clone, Copy)]
 pub struct Progress {
     pub len: usize,
     pub settled: u64,
@@ -59,7 +59,8 @@ fn update_node(labels: &mut [u64], base: u64, v: usize, weight: u64)
     ensures { labels.new ≡ put_label labels.old base v weight }
 {
     let mut stamp = labels[2 * v + 1];
-    if stamp < base {
+    let earlier = stamp < base;
+    if earlier {
         stamp = base;
     }
     labels[2 * v] = weight;
@@ -99,7 +100,8 @@ fn relax_arc(
     requires { Offering labels.old heap.old len head }
     ensures { Crossed labels.old heap.old labels.new heap.new base avoid len result head weight }
 {
-    if head == avoid {
+    let avoided = head == avoid;
+    if avoided {
         return len;
     }
     offer(labels, heap, base, len, head as usize, weight)

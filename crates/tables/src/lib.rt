@@ -164,7 +164,8 @@ fn passes(
     if weight == 0 {
         return false;
     }
-    if rules::MAX_WEIGHT < weight {
+    let heavy = rules::MAX_WEIGHT < weight;
+    if heavy {
         return false;
     }
     if first == rules::INVALID {

@@ -12,7 +12,7 @@ use halves::{get_weight, is_settled};
 use rules::WEIGHT_MAX;
 
 // The best sum so far and its meeting node; the marks where there is none.
-#[derive(Drop)]
+#[derive(Clone, Copy)]
 pub struct Best {
     pub sum: u64,
     pub node: u32,
@@ -31,7 +31,7 @@ impl Best {
 }
 
 // Where a turn leaves its side: how many items the heap has, and the best sum.
-#[derive(Drop)]
+#[derive(Clone, Copy)]
 pub struct Outcome {
     pub len: usize,
     pub best: Best,
@@ -53,7 +53,8 @@ fn meet(facing: &[u64], base: u64, v: usize, weight: u64, best: Best) -> Best
     ensures { of result ≡ improve (weight + (seen facing.now base v).weight) v (of best) }
 {
     let across = get_weight(facing, base, v);
-    if across == WEIGHT_MAX {
+    let apart = across == WEIGHT_MAX;
+    if apart {
         return best;
     }
     best.improve(weight + across, v as u32)

@@ -2,8 +2,8 @@
 use Rattle.ends.proofs.Steps.{fitting, marked}
 use Rattle.ends.proofs.offset_fits.Goals as goal
 
-pub returns-then-offset-le-MAX_WEIGHT : goal.returns-then-offset-le-MAX_WEIGHT
-returns-then-offset-le-MAX_WEIGHT c = fitting _ c.if-offset-le-MAX_WEIGHT.true
+pub returns-then-light : goal.returns-then-light
+returns-then-light c = fitting _ c.if-light.true
 
 pub returns : goal.returns
-returns c = marked _ c.if-offset-le-MAX_WEIGHT.false
+returns c = marked _ c.if-light.false

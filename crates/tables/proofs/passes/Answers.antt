@@ -7,10 +7,10 @@ use Rattle.tables.specs.Lent.{columns, side}
 use Rattle.tables.specs.Shapes.{numbers}
 use Rattle.tables.proofs.Entries.{readable, Kept, other_rank, no_higher, plain, opened_forward, opened_backward}
 use Rattle.tables.proofs.passes.Goals as goal
-use Rattle.tables.proofs.passes.Goals.{Else-weight-gt-MAX_WEIGHT, Joined-first-eq-INVALID, then-first-eq-INVALID+else-second-eq-INVALID, else-first-eq-INVALID}
+use Rattle.tables.proofs.passes.Goals.{Else-heavy, Joined-first-eq-INVALID, then-first-eq-INVALID+else-second-eq-INVALID, else-first-eq-INVALID}
 
 -- what is known once the weight has passed
-kept : (c : Else-weight-gt-MAX_WEIGHT) →
+kept : (c : Else-heavy) →
     let a = c.args in
     Kept a.n a.ranks.now (columns a.s.now a.b.now a.m.now a.w.now a.i.now a.o.now) (columns a.ts.now a.tb.now a.tm.now a.tw.now a.ti.now a.to.now)
     c.requires.0 (side a.forward) a.r (numbers a.base a.neighbour a.weight a.first a.second)
@@ -21,7 +21,7 @@ kept c =
       neighbour_below = c.if-n-neighbour.false;
       neighbour_higher = c.if-ranks-neighbour.false;
       weight_low = omega (arith, c.if-weight-eq0.false);
-      weight_high = c.if-weight-gt-MAX_WEIGHT.false;
+      weight_high = c.if-heavy.false;
     }
 
 not_plain : (c : Joined-first-eq-INVALID) → let a = c.args in (a.first ≡ invalid) × (a.second ≡ invalid) → ⊥
@@ -58,11 +58,11 @@ returns-then-ranks-neighbour c = no (λ f. no_higher _ _ _ _ c.requires.0 _ _ _ 
 pub returns-then-weight-eq0 : goal.returns-then-weight-eq0
 returns-then-weight-eq0 c = no (λ f. omega (arith, f.weight_low, c.if-weight-eq0.true))
 
-pub returns-then-weight-gt-MAX_WEIGHT : goal.returns-then-weight-gt-MAX_WEIGHT
-returns-then-weight-gt-MAX_WEIGHT c = no (λ f. omega (arith, f.weight_high, c.if-weight-gt-MAX_WEIGHT.true))
+pub returns-then-heavy : goal.returns-then-heavy
+returns-then-heavy c = no (λ f. omega (arith, f.weight_high, c.if-heavy.true))
 
 pub returns-then-second-eq-INVALID : goal.returns-then-second-eq-INVALID
-returns-then-second-eq-INVALID c = yes (plain _ _ _ _ c.requires.0 _ _ _ (kept (goal.at.returns-then-second-eq-INVALID c).Else-weight-gt-MAX_WEIGHT) c.if-first-eq-INVALID.true c.if-second-eq-INVALID.true)
+returns-then-second-eq-INVALID c = yes (plain _ _ _ _ c.requires.0 _ _ _ (kept (goal.at.returns-then-second-eq-INVALID c).Else-heavy) c.if-first-eq-INVALID.true c.if-second-eq-INVALID.true)
 
 pub opens-requires : goal.opens-requires
 opens-requires c = let p = c.requires.0 in (p.nodes, readable _ _ p.own_shape, readable _ _ p.other_shape)
@@ -71,7 +71,7 @@ pub opens-requires-else-forward : goal.opens-requires-else-forward
 opens-requires-else-forward c = let p = c.requires.0 in (p.nodes, readable _ _ p.other_shape, readable _ _ p.own_shape)
 
 pub returns-then-forward : goal.returns-then-forward
-returns-then-forward c = opened_forward _ _ _ _ c.requires.0 _ _ (not_plain (goal.at.returns-then-forward c).Joined-first-eq-INVALID) c.requires.1 _ c.if-forward.true (kept (goal.at.returns-then-forward c).Else-weight-gt-MAX_WEIGHT) c.opens.ensures
+returns-then-forward c = opened_forward _ _ _ _ c.requires.0 _ _ (not_plain (goal.at.returns-then-forward c).Joined-first-eq-INVALID) c.requires.1 _ c.if-forward.true (kept (goal.at.returns-then-forward c).Else-heavy) c.opens.ensures
 
 pub returns-else-forward : goal.returns-else-forward
-returns-else-forward c = opened_backward _ _ _ _ c.requires.0 _ _ (not_plain (goal.at.returns-else-forward c).Joined-first-eq-INVALID) c.requires.1 _ c.if-forward.false (kept (goal.at.returns-else-forward c).Else-weight-gt-MAX_WEIGHT) c.opens-else-forward.ensures
+returns-else-forward c = opened_backward _ _ _ _ c.requires.0 _ _ (not_plain (goal.at.returns-else-forward c).Joined-first-eq-INVALID) c.requires.1 _ c.if-forward.false (kept (goal.at.returns-else-forward c).Else-heavy) c.opens-else-forward.ensures

@@ -10,11 +10,11 @@ use Rattle.turns.proofs.meet.Goals as goal
 pub get_weight-across-requires : goal.get_weight-across-requires
 get_weight-across-requires c = c.requires.0
 
-pub returns-then-across : goal.returns-then-across
-returns-then-across c = improves_not _ _ _ (omega (arith, c.get_weight-across.ensures, c.if-across.true, c.ranges))
+pub returns-then-apart : goal.returns-then-apart
+returns-then-apart c = improves_not _ _ _ (omega (arith, c.get_weight-across.ensures, c.if-apart.true, c.ranges))
 
 pub overflow_add-weight : goal.overflow_add-weight
-overflow_add-weight c = omega (arith, c.get_weight-across.ensures, c.requires.2 (omega (arith, c.get_weight-across.ensures, c.get_weight-across, c.if-across.false)))
+overflow_add-weight c = omega (arith, c.get_weight-across.ensures, c.requires.2 (omega (arith, c.get_weight-across.ensures, c.get_weight-across, c.if-apart.false)))
 
 pub overflow_cast-v : goal.overflow_cast-v
 overflow_cast-v c = omega (arith, c.requires.1)

@@ -4,10 +4,10 @@ use Rattle.search.proofs.Crossing.{cross_offer}
 use Rattle.search.proofs.Offers.{crossed_not}
 use Rattle.search.proofs.witness_search.relax_arc.Goals as goal
 
-pub returns-then-head-avoid : goal.returns-then-head-avoid
-returns-then-head-avoid c = λ n search inside x. crossed_not x c.args.avoid c.args.head c.args.weight c.if-head-avoid.true
+pub returns-then-avoided : goal.returns-then-avoided
+returns-then-avoided c = λ n search inside x. crossed_not x c.args.avoid c.args.head c.args.weight c.if-avoided.true
 
 pub returns : goal.returns
 returns c =
     λ n search inside x.
-    rw (cross_offer c.args.avoid (pair c.args.weight c.args.head) search c.if-head-avoid.false) (c.offer.ensures n search inside x)
+    rw (cross_offer c.args.avoid (pair c.args.weight c.args.head) search c.if-avoided.false) (c.offer.ensures n search inside x)

@@ -6,23 +6,23 @@ use lib.ListN.{set, length-set}
 use borrow.Author.Tests.{lt-ltb, le-ltb}
 use Rattle.search.specs.Labels.{kept_stamp, put_label}
 use Rattle.search.proofs.witness_search.update_node.Goals as goal
-use Rattle.search.proofs.witness_search.update_node.Goals.{Joined-stamp-base, then-stamp-base, else-stamp-base}
+use Rattle.search.proofs.witness_search.update_node.Goals.{Joined-earlier, then-earlier, else-earlier}
 
 pub bounds-labels-v-3 : goal.bounds-labels-v-3
 bounds-labels-v-3 c = simp length-set (omega arith)
 
-joined : (c : Joined-stamp-base) →
+joined : (c : Joined-earlier) →
     let a = c.args in
-    c.if-stamp-base.stamp ≡ kept_stamp a.labels.now a.base a.v
+    c.if-earlier.stamp ≡ kept_stamp a.labels.now a.base a.v
 unfolding kept_stamp
 joined c =
-    elim c.if-stamp-base.branch [
-      | then-stamp-base w ↦ rw (lt-ltb _ _ w.if-stamp-base.true, kept_stamp) w.stamp-is
-      | else-stamp-base w ↦ rw (le-ltb _ _ w.if-stamp-base.false, kept_stamp) w.stamp-is
+    elim c.if-earlier.branch [
+      | then-earlier w ↦ rw (lt-ltb _ _ w.if-earlier.true, kept_stamp) w.stamp-is
+      | else-earlier w ↦ rw (le-ltb _ _ w.if-earlier.false, kept_stamp) w.stamp-is
     ]
 
 pub returns : goal.returns
 unfolding put_label
 returns c =
     let a = c.args in
-    ap (set (set a.labels.now (2 * a.v) a.weight) (2 * a.v + 1)) (joined (goal.at.returns c).Joined-stamp-base)
+    ap (set (set a.labels.now (2 * a.v) a.weight) (2 * a.v + 1)) (joined (goal.at.returns c).Joined-earlier)
