@@ -7,7 +7,7 @@
  * run at the same time. Of the C library it uses memset alone. Any numbers may be handed in: every call ends, and bad input is met
  * with a numbered refusal (enum ratmanoep_number). What is lent to be written may hold anything beforehand.
  *
- * Stack, as measured: 4 KB for a build and a table check; for a query some 230 bytes for each level of entries within entries, the most
+ * Stack, as measured with an older kit: 4 KB for a build and a table check; for a query some 230 bytes for each level of entries within entries, the most
  * 230 KB (a line of 1,024 nodes ranked from one end to the other); 130 KB for the record program.
  *
  * What is asked of a pointer is all that is asked of a caller, and nothing can test it:

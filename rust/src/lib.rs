@@ -39,7 +39,8 @@
 //! # What it needs
 //!
 //! x86-64 Linux, and `libratmanoep.a`, which `rt lib` in crates/ratmanoep of the repository proves and writes to its out; `RATMANOEP_LIB`
-//! names another folder. A query may use 230 KB of stack (a line of 1,024 nodes), [`answer_records`] 130 KB.
+//! names another folder. As measured with an older
+//! kit, a query may use 230 KB of stack (a line of 1,024 nodes), [`answer_records`] 130 KB.
 
 pub use crate::constants::*;
 pub use crate::error::{Error, Refusal};
