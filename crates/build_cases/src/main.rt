@@ -421,6 +421,6 @@ fn replay_all(rt: &impl Print, bytes: &[u8]) -> io::Result<()> {
 
 fn main(rt: HostRuntime) -> io::Result<()> {
     let mut space = [0u8; 65536];
-    let count = fixed::read_list(&mut rt.stdin(), &mut space)?;
+    let count = input::fill(&mut rt.stdin(), &mut space)?;
     replay_all(&rt, &space[..count])
 }

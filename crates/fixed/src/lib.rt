@@ -2,27 +2,7 @@
 // back. Past the end every number is 0.
 #![tactic(auto)]
 
-ghost use Rattle.std.specs.Prelude.{◌≤◌, ◌<◌, length, take, IfOk};
-ghost use Rattle.std.specs.Io.KnownBytes.{Consumes, IsAtEnd};
-
-use std::io::{self, Read};
-
-// Fills the list from its front with what is read, until it is full or the input ends, and returns how many bytes there were.
-pub fn read_list<R: Read>(input: &mut R, list: &mut [u8]) -> io::Result<usize>
-    ensures bound { IfOk result (λ count. count ≤ length list.new) }
-    ensures bytes { IfOk result (λ count. Consumes (R.remaining input.old) (R.remaining input.new) (take count list.new)) }
-    ensures end { IfOk result (λ count. count < length list.new → IsAtEnd (R.remaining input.new)) }
-{
-    let mut end = 0;
-    while end < list.len() {
-        let count = input.read(&mut list[end..])?;
-        if count == 0 {
-            return Ok(end);
-        }
-        end += count;
-    }
-    Ok(end)
-}
+ghost use Rattle.std.specs.Prelude.{◌≤◌, length};
 
 // So many bytes on, but never past the end.
 pub fn past(bytes: &[u8], at: usize, step: usize) -> usize
