@@ -6,6 +6,7 @@ pub mod Text
 pub mod Columns
 pub mod TableRules
 pub mod Refusals
+pub mod Refused
 pub mod Accepted
 pub mod Heap
 pub mod Graph
