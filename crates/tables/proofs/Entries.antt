@@ -1,5 +1,5 @@
 -- An entry keeps the rules: what the code's tests of its numbers say.
-use mathlib.Core.Bool.{Bool, true, false, true≢false, false≢true}
+use mathlib.Core.Bool.{Bool, true, false}
 use mathlib.Core.List.{List, [], ◌∷◌}
 use mathlib.Core.Logic.{◌↔◌, ◌⊎◌, inl, inr}
 use mathlib.Core.Path.{◌≡◌, refl, sym, ap, ◌∙◌}
@@ -10,11 +10,11 @@ use native.Mathlib.Decide.{dec_lt}
 use lib.ListN.{length, get_or, set, get_or-eq_default}
 use Rattle.rules.specs.Numbers.{max_weight, invalid, no_weight}
 use Rattle.rules.specs.Lists.{Decides}
-use Rattle.rules.specs.Columns.{Table, Entry, Hierarchy, Side, forward, backward, table, entry, rank, begin, room}
+use Rattle.rules.specs.Columns.{Table, Entry, Hierarchy, Side, forward, backward, table, entry, rank, begin, room, EquallyLong}
 use Rattle.rules.specs.TableRules.{used, tail_of, head_of, Opens, EntryRules}
 use Rattle.rules.proofs.Decides.{decides_as, denied}
-use Rattle.tables.specs.Lent.{lent, side, either, sided}
-use Rattle.tables.specs.Shapes.{Shape, Shaped, Readable, Opening, numbers, RankRules, Earlier, RanksRules, EntriesRules}
+use Rattle.tables.specs.Lent.{lent, either, sided, read}
+use Rattle.tables.specs.Shapes.{Shape, Shaped, Readable, Opening, RankRules, Earlier, RanksRules, EntriesRules}
 use Rattle.tables.proofs.Marks.{Marked, none_marked, twice, one_more, mark_more}
 
 -- within a column it does not matter what stands beyond it
@@ -22,12 +22,6 @@ pub get_d_any : (xs : List ℕ) (i d k : ℕ) → i < length xs → get_or xs i 
 get_d_any [] i d k h = absurd (omega arith)
 get_d_any (x ∷ xs) zero d k h = refl
 get_d_any (x ∷ xs) (suc i) d k h = get_d_any xs i d k (omega arith)
-
--- an entry within the columns, as the code reads it
-abbrev pub read : Table → ℕ → Entry
-read t e =
-    numbers (get_or t.bases e 0) (get_or t.neighbours e 0) (get_or t.weights e 0) (get_or t.in_numbers e 0)
-    (get_or t.out_numbers e 0)
 
 pub entry_read : (n : ℕ) (t : Table) → Shape n t → (e : ℕ) → e < room t → entry t e ≡ read t e
 unfolding entry room
@@ -38,9 +32,9 @@ entry_read n t shape e h =
     let w = get_d_any t.weights e no_weight 0 (omega (arith, c.weights)) in
     let i = get_d_any t.in_numbers e invalid 0 (omega (arith, c.in_numbers)) in
     let o = get_d_any t.out_numbers e invalid 0 (omega (arith, c.out_numbers)) in
-    λ k. numbers (b k) (m k) (w k) (i k) (o k)
+    λ k. record { base = b k; neighbour = m k; weight = w k; in_number = i k; out_number = o k }
 
-pub readable : (n : ℕ) (t : Table) → Shape n t → Readable n t.starts t.bases t.neighbours t.weights
+pub readable : (n : ℕ) (t : Table) → Shape n t → Readable n t
 unfolding room used begin
 readable n t shape =
     record {
@@ -49,10 +43,6 @@ readable n t shape =
       neighbours = shape.columns.neighbours;
       weights = shape.columns.weights;
     }
-
-abbrev pub opening : ℕ → List ℕ → Table → Table → ℕ → ℕ → ℕ → ℕ → ℕ → ℕ → Type 0
-opening n ranks f b =
-    Opening n ranks f.starts f.bases f.neighbours f.weights b.starts b.bases b.neighbours b.weights
 
 shape_either : {n : ℕ} {own other : Table} (s : Side) → Shape n own → Shape n other → Shape n (either s own other)
 shape_either forward a b = a
@@ -69,7 +59,7 @@ module _ (n : ℕ) (ranks : List ℕ) (f b : Table) (shape_f : Shape n f) (shape
       ]
 
   pub fits : (s : Side) (e : Entry) (r : ℕ) → r ≤ 1024 → rank (lent ranks f b) e.base ≡ r →
-      opening n ranks f b r (tail_of s e) (head_of s e) e.weight e.in_number e.out_number ↔ Opens n (lent ranks f b) s e
+      Opening n ranks f b r (tail_of s e) (head_of s e) e.weight e.in_number e.out_number ↔ Opens n (lent ranks f b) s e
   unfolding rank used begin
   fits s e r few is = (
     λ o.
@@ -112,12 +102,11 @@ unfolding table
 own_is forward ranks own other = refl
 own_is backward ranks own other = refl
 
-pub even_columns : (n : ℕ) (t : Table) → Shape n t →
+pub each_within : (t : Table) → EquallyLong t →
     (length t.neighbours ≡ length t.bases) × (length t.weights ≡ length t.bases) ×
     (length t.in_numbers ≡ length t.bases) × (length t.out_numbers ≡ length t.bases)
 unfolding room
-even_columns n t shape =
-    (shape.columns.neighbours, shape.columns.weights, shape.columns.in_numbers, shape.columns.out_numbers)
+each_within t even = (even.neighbours, even.weights, even.in_numbers, even.out_numbers)
 
 -- of starts that never fall none is above the last
 rising : (f : ℕ → ℕ) (n : ℕ) → ((r : ℕ) → r < n → f r ≤ f (suc r)) → (a : ℕ) → a ≤ n → f a ≤ f n
@@ -200,7 +189,7 @@ module _ (n : ℕ) (ranks : List ℕ) (own other : Table) (shaped : Shaped n ran
 
     -- by the two entries that its numbers name
     pub opened : {x : Bool} → ((e.in_number ≡ invalid) × (e.out_number ≡ invalid) → ⊥) → r < n →
-        Decides x (opening n ranks (either s own other) (either s other own) r (tail_of s e) (head_of s e) e.weight e.in_number e.out_number) →
+        Decides x (Opening n ranks (either s own other) (either s other own) r (tail_of s e) (head_of s e) e.weight e.in_number e.out_number) →
         Decides x (EntryRules n h s r e)
     opened not_plain below d =
         by_opening not_plain
@@ -217,26 +206,30 @@ module _ (n : ℕ) (ranks : List ℕ) (own other : Table) (shaped : Shaped n ran
   unfolding room
   at_own e inside = rw own_table (entry_read n own shaped.own_shape e inside)
 
-  module _ (r begin end e : ℕ) {x : Bool} (d : Decides x (EntryRules n h s r (read own e))) (low : begin ≤ e) (high : e < end)
-      (within : end ≤ length own.bases) where
+  -- y is entry e, as the code reads it
+  module _ (r begin end e : ℕ) (y : Entry) (is : y ≡ read own e) {x : Bool} (d : Decides x (EntryRules n h s r y)) (low : begin ≤ e)
+      (high : e < end) (within : end ≤ length own.bases) where
+    is_own : entry (table h s) e ≡ y
+    is_own = at_own e (omega arith) ∙ sym is
+
     pub fails_here : x ≡ false → RankRules n h s r begin end → ⊥
-    fails_here f all = denied d f (rw (at_own e (omega arith)) at (all.entry_rules e low high))
+    fails_here f all = denied d f (rw is_own at (all.entry_rules e low high))
 
     module _ (t : x ≡ true) where
-      pub neighbour_inside : get_or own.neighbours e 0 < 1024
+      pub neighbour_inside : y.neighbour < 1024
       neighbour_inside = omega (arith, (d.0 t).neighbour_below, shaped.nodes)
 
-      neighbour_is : (entry (table h s) e).neighbour ≡ get_or own.neighbours e 0
-      neighbour_is = ap (λ (y : Entry). y.neighbour) (at_own e (omega arith))
+      neighbour_is : (entry (table h s) e).neighbour ≡ y.neighbour
+      neighbour_is = ap (λ (z : Entry). z.neighbour) is_own
 
       -- the entry's neighbour has this rank's mark, or gets it
       module _ (k : ℕ) (marks : List ℕ) (p : Passed n h s r k begin e marks) where
-        pub twin_here : get_or marks (get_or own.neighbours e 0) 0 ≡ k → RankRules n h s r begin end → ⊥
-        twin_here is all =
-            twice (λ d. (entry (table h s) d).neighbour) k begin e marks low p.marked end high (rw neighbour_is is)
+        pub twin_here : get_or marks y.neighbour 0 ≡ k → RankRules n h s r begin end → ⊥
+        twin_here has all =
+            twice (λ d. (entry (table h s) d).neighbour) k begin e marks low p.marked end high (rw neighbour_is has)
             all.neighbours_differ
 
-        pub holds_here : (get_or marks (get_or own.neighbours e 0) 0 ≡ k → ⊥) → Passed n h s r k begin (e + 1) (set marks (get_or own.neighbours e 0) k)
+        pub holds_here : (get_or marks y.neighbour 0 ≡ k → ⊥) → Passed n h s r k begin (e + 1) (set marks y.neighbour k)
         holds_here other =
             record {
               rules =
@@ -247,11 +240,11 @@ module _ (n : ℕ) (ranks : List ℕ) (own other : Table) (shaped : Shaped n ran
                           | yes before ↦ p.rules.entry_rules c low' before
                           | no after ↦
                               let same : c ≡ e = omega arith in
-                              rw (same, at_own e (omega arith)) (d.0 t)
+                              rw (same, is_own) (d.0 t)
                         ];
                     neighbours_differ =
                         one_more (λ d. (entry (table h s) d).neighbour) k begin e marks low p.marked
-                        (λ is. other (rw neighbour_is at is)) p.rules.neighbours_differ;
+                        (λ has. other (rw neighbour_is at has)) p.rules.neighbours_differ;
                   };
               marked =
                   rw neighbour_is at
@@ -295,16 +288,14 @@ module _ (n : ℕ) (ranks : List ℕ) (own other : Table) (shaped : Shaped n ran
 -- the code asks which side it is
 module _ (n : ℕ) (ranks : List ℕ) (own other : Table) (shaped : Shaped n ranks own other) (r : ℕ) (e : Entry) {x : Bool}
     (not_plain : (e.in_number ≡ invalid) × (e.out_number ≡ invalid) → ⊥) (below : r < n) where
-  pub opened_forward : (b : Bool) → b ≡ true → Kept n ranks own other shaped (side b) r e →
-      Decides x (opening n ranks own other r e.base e.neighbour e.weight e.in_number e.out_number) →
-      Decides x (EntryRules n (sided (side b) ranks own other) (side b) r e)
+  pub opened_forward : Kept n ranks own other shaped forward r e →
+      Decides x (Opening n ranks own other r e.base e.neighbour e.weight e.in_number e.out_number) →
+      Decides x (EntryRules n (sided forward ranks own other) forward r e)
   unfolding tail_of head_of
-  opened_forward true is k d = opened n ranks own other shaped forward r e k not_plain below d
-  opened_forward false is k d = absurd (false≢true is)
+  opened_forward k d = opened n ranks own other shaped forward r e k not_plain below d
 
-  pub opened_backward : (b : Bool) → b ≡ false → Kept n ranks own other shaped (side b) r e →
-      Decides x (opening n ranks other own r e.neighbour e.base e.weight e.in_number e.out_number) →
-      Decides x (EntryRules n (sided (side b) ranks own other) (side b) r e)
+  pub opened_backward : Kept n ranks own other shaped backward r e →
+      Decides x (Opening n ranks other own r e.neighbour e.base e.weight e.in_number e.out_number) →
+      Decides x (EntryRules n (sided backward ranks own other) backward r e)
   unfolding tail_of head_of
-  opened_backward true is k d = absurd (true≢false is)
-  opened_backward false is k d = opened n ranks own other shaped backward r e k not_plain below d
+  opened_backward k d = opened n ranks own other shaped backward r e k not_plain below d

@@ -1,7 +1,9 @@
 -- The table rules, part by part, as the functions of the check find them.
 use Rattle.std.specs.Prelude.{List, ◌≡◌, ℕ, suc, ◌+◌, ◌≤◌, ◌<◌, length, get_or}
-use Rattle.rules.specs.Columns.{Table, Entry, Hierarchy, Side, table, entry, begin, room, EquallyLong}
+use Rattle.rules.specs.Columns.{Table, Hierarchy, Side, table, entry, begin, room, EquallyLong}
 use Rattle.rules.specs.TableRules.{used, NeighboursDiffer, EntryRules}
+use Rattle.tables.specs.declared.Sided.{Sided}
+use Rattle.tables.specs.Lent.{columns_of}
 
 -- what is said of a table's columns and starts
 pub record Shape (n : ℕ) (t : Table) : Type 0 where
@@ -18,26 +20,26 @@ pub record Shaped (n : ℕ) (ranks : List ℕ) (own other : Table) : Type 0 wher
   pub own_shape : Shape n own
   pub other_shape : Shape n other
 
+abbrev pub ShapedSided : Sided → Type 0
+ShapedSided v = Shaped v.num_nodes v.ranks.now (columns_of v.own) (columns_of v.other)
+
 -- the part of it that reading one entry takes
-pub record Readable (n : ℕ) (s b m w : List ℕ) : Type 0 where
-  pub starts : suc n ≤ length s
-  pub within : get_or s n 0 ≤ length b
-  pub neighbours : length m ≡ length b
-  pub weights : length w ≡ length b
+pub record Readable (n : ℕ) (t : Table) : Type 0 where
+  pub starts : suc n ≤ length t.starts
+  pub within : get_or t.starts n 0 ≤ length t.bases
+  pub neighbours : length t.neighbours ≡ length t.bases
+  pub weights : length t.weights ≡ length t.bases
 
 -- `Fitting` of the rules, in the columns' numbers
-pub record Opening (n : ℕ) (ranks fs fb fm fw bs bb bm bw : List ℕ) (r tail head weight a b : ℕ) : Type 0 where
-  pub in_used : a < get_or bs n 0
-  pub out_used : b < get_or fs n 0
-  pub one_node : get_or bb a 0 ≡ get_or fb b 0
-  pub ranked : get_or bb a 0 < length ranks
-  pub lower : get_or ranks (get_or bb a 0) 0 < r
-  pub from_tail : get_or bm a 0 ≡ tail
-  pub to_head : get_or fm b 0 ≡ head
-  pub sum : get_or bw a 0 + get_or fw b 0 ≡ weight
-
-abbrev pub numbers : ℕ → ℕ → ℕ → ℕ → ℕ → Entry
-numbers b m w i o = record { base = b; neighbour = m; weight = w; in_number = i; out_number = o }
+pub record Opening (n : ℕ) (ranks : List ℕ) (fwd bwd : Table) (r tail head weight a b : ℕ) : Type 0 where
+  pub in_used : a < get_or bwd.starts n 0
+  pub out_used : b < get_or fwd.starts n 0
+  pub one_node : get_or bwd.bases a 0 ≡ get_or fwd.bases b 0
+  pub ranked : get_or bwd.bases a 0 < length ranks
+  pub lower : get_or ranks (get_or bwd.bases a 0) 0 < r
+  pub from_tail : get_or bwd.neighbours a 0 ≡ tail
+  pub to_head : get_or fwd.neighbours b 0 ≡ head
+  pub sum : get_or bwd.weights a 0 + get_or fwd.weights b 0 ≡ weight
 
 -- the entries of a stretch keep the rules of rank r, each its own, and no two lead to one neighbour
 pub record RankRules (n : ℕ) (h : Hierarchy) (s : Side) (r a b : ℕ) : Type 0 where

@@ -7,78 +7,145 @@
 
 ghost use Rattle.std.specs.Prelude.{◌≡◌, ℕ, suc, ◌+◌, ◌≤◌, ◌<◌, length, get_or};
 ghost use Rattle.rules.specs.Lists.{Decides};
-ghost use Rattle.rules.specs.Columns.{entry};
+ghost use Rattle.rules.specs.Columns.{EquallyLong};
+ghost use Rattle.rules.specs.Refused.{code};
 ghost use Rattle.rules.specs.TableRules.{EntryRules};
 ghost use Rattle.rules.specs.Refusals.{check_refusal};
-ghost use Rattle.tables.specs.Lent.{columns, lent, side, sided};
-ghost use Rattle.tables.specs.Shapes.{Shape, Shaped, Readable, Opening, numbers, RankRules, Earlier, EntriesRules};
+ghost use Rattle.tables.specs.Lent.{columns_of, hierarchy_of, seen_from, side_of, sided_of, entry_of, read};
+ghost use Rattle.tables.specs.Shapes.{Shape, ShapedSided, Readable, Opening, RankRules, Earlier, EntriesRules};
+
+use rules::{INVALID, MAX_NODES, MAX_WEIGHT, Refusal};
+
+#[derive(Clone, Copy, Debug, PartialEq, Eq)]
+pub enum Side {
+    Forward,
+    Backward,
+}
+
+// A table's columns: where the entries of a rank start, and five numbers of each entry.
+#[derive(Clone, Copy)]
+pub struct Table<'a> {
+    pub starts: &'a [u32],
+    pub bases: &'a [u32],
+    pub neighbours: &'a [u32],
+    pub weights: &'a [u64],
+    pub ins: &'a [u32],
+    pub outs: &'a [u32],
+}
+
+// A hierarchy as it is lent.
+#[derive(Clone, Copy)]
+pub struct FastGraph<'a> {
+    pub num_nodes: usize,
+    pub ranks: &'a [u32],
+    pub fwd: Table<'a>,
+    pub bwd: Table<'a>,
+}
+
+// One table of a hierarchy and the other beside it: what a function that serves both sides is handed.
+#[derive(Clone, Copy)]
+pub struct Sided<'a> {
+    pub num_nodes: usize,
+    pub ranks: &'a [u32],
+    pub own: Table<'a>,
+    pub other: Table<'a>,
+}
+
+#[derive(Clone, Copy)]
+struct Entry {
+    base: u32,
+    neighbour: u32,
+    weight: u64,
+    in_number: u32,
+    out_number: u32,
+}
+
+impl<'a> FastGraph<'a> {
+    pub fn seen_from(&self, side: Side) -> Sided<'a>
+        ensures { result ≡ seen_from self.now side }
+    {
+        match side {
+            Side::Forward => Sided {
+                num_nodes: self.num_nodes,
+                ranks: self.ranks,
+                own: self.fwd,
+                other: self.bwd,
+            },
+            Side::Backward => Sided {
+                num_nodes: self.num_nodes,
+                ranks: self.ranks,
+                own: self.bwd,
+                other: self.fwd,
+            },
+        }
+    }
+}
+
+impl Table<'_> {
+    fn entry(&self, e: usize) -> Entry
+        requires { EquallyLong (columns_of self.now) × (e < length self.now.bases.now) }
+        ensures { entry_of result ≡ read (columns_of self.now) e }
+    {
+        Entry {
+            base: self.bases[e],
+            neighbour: self.neighbours[e],
+            weight: self.weights[e],
+            in_number: self.ins[e],
+            out_number: self.outs[e],
+        }
+    }
+}
 
 // Whether the first n + 1 starts never fall.
 fn never_fall(n: usize, starts: &[u32]) -> bool
     requires { suc n ≤ length starts.now }
     ensures { Decides result ((r : ℕ) → r < n → get_or starts.now r 0 ≤ get_or starts.now (suc r) 0) }
 {
-    let mut r = 0;
-    while r < n {
+    for r in 0..n {
         if starts[r + 1] < starts[r] {
             return false;
         }
-        r += 1;
     }
     true
 }
 
 // Whether a table's columns are equally long, and its starts begin at 0, never fall and end within them.
-fn shaped(
-    n: usize,
-    starts: &[u32],
-    bases: &[u32],
-    neighbours: &[u32],
-    weights: &[u64],
-    ins: &[u32],
-    outs: &[u32],
-) -> bool
+fn shaped(n: usize, t: &Table<'_>) -> bool
     requires { n ≤ 1024 }
-    ensures { Decides result (Shape n (columns starts.now bases.now neighbours.now weights.now ins.now outs.now)) }
+    ensures { Decides result (Shape n (columns_of t.now)) }
 {
-    let room = bases.len();
-    if neighbours.len() != room {
+    let room = t.bases.len();
+    if t.neighbours.len() != room {
         return false;
     }
-    if weights.len() != room {
+    if t.weights.len() != room {
         return false;
     }
-    if ins.len() != room {
+    if t.ins.len() != room {
         return false;
     }
-    if outs.len() != room {
+    if t.outs.len() != room {
         return false;
     }
-    if starts.len() <= n {
+    if t.starts.len() <= n {
         return false;
     }
-    if starts[0] != 0 {
+    if t.starts[0] != 0 {
         return false;
     }
-    if room < starts[n] as usize {
+    if room < t.starts[n] as usize {
         return false;
     }
-    never_fall(n, starts)
+    never_fall(n, t.starts)
 }
 
 // Whether the backward entry a and the forward entry b are used entries of one node of a rank below r, lead from tail to it and
-// from it to head, and weigh together as much as is given. Columns: f forward, b backward; starts, bases, neighbours, weights.
+// from it to head, and weigh together as much as is given.
 fn opens(
     n: usize,
     ranks: &[u32],
-    fs: &[u32],
-    fb: &[u32],
-    fm: &[u32],
-    fw: &[u64],
-    bs: &[u32],
-    bb: &[u32],
-    bm: &[u32],
-    bw: &[u64],
+    fwd: &Table<'_>,
+    bwd: &Table<'_>,
     r: usize,
     tail: u32,
     head: u32,
@@ -86,19 +153,19 @@ fn opens(
     a: u32,
     b: u32,
 ) -> bool
-    requires { (n ≤ 1024) × Readable n fs.now fb.now fm.now fw.now × Readable n bs.now bb.now bm.now bw.now }
-    ensures { Decides result (Opening n ranks.now fs.now fb.now fm.now fw.now bs.now bb.now bm.now bw.now r tail head weight a b) }
+    requires { (n ≤ 1024) × Readable n (columns_of fwd.now) × Readable n (columns_of bwd.now) }
+    ensures { Decides result (Opening n ranks.now (columns_of fwd.now) (columns_of bwd.now) r tail head weight a b) }
 {
-    if bs[n] <= a {
+    if bwd.starts[n] <= a {
         return false;
     }
-    if fs[n] <= b {
+    if fwd.starts[n] <= b {
         return false;
     }
     let i = a as usize;
     let o = b as usize;
-    let middle = bb[i];
-    if fb[o] != middle {
+    let middle = bwd.bases[i];
+    if fwd.bases[o] != middle {
         return false;
     }
     let m = middle as usize;
@@ -108,267 +175,139 @@ fn opens(
     if r <= ranks[m] as usize {
         return false;
     }
-    if bm[i] != tail {
+    if bwd.neighbours[i] != tail {
         return false;
     }
-    if fm[o] != head {
+    if fwd.neighbours[o] != head {
         return false;
     }
-    let first = bw[i];
+    let first = bwd.weights[i];
     if weight < first {
         return false;
     }
-    fw[o] == weight - first
+    fwd.weights[o] == weight - first
 }
 
-// Whether an entry of rank r keeps the rules: of the forward table, or of the backward one. Columns: s starts, b bases,
-// m neighbours, w weights, i and o its two numbers; those of the other table with t before them.
-fn passes(
-    forward: bool,
-    n: usize,
-    ranks: &[u32],
-    s: &[u32],
-    b: &[u32],
-    m: &[u32],
-    w: &[u64],
-    i: &[u32],
-    o: &[u32],
-    ts: &[u32],
-    tb: &[u32],
-    tm: &[u32],
-    tw: &[u64],
-    ti: &[u32],
-    to: &[u32],
-    r: usize,
-    base: u32,
-    neighbour: u32,
-    weight: u64,
-    first: u32,
-    second: u32,
-) -> bool
-    requires { Shaped n ranks.now (columns s.now b.now m.now w.now i.now o.now) (columns ts.now tb.now tm.now tw.now ti.now to.now) × (r < n) }
-    ensures { Decides result (EntryRules n (sided (side forward) ranks.now (columns s.now b.now m.now w.now i.now o.now) (columns ts.now tb.now tm.now tw.now ti.now to.now)) (side forward) r (numbers base neighbour weight first second)) }
+// Whether an entry of rank r keeps the rules of its side.
+fn passes(side: Side, v: &Sided<'_>, r: usize, e: Entry) -> bool
+    requires { ShapedSided v.now × (r < v.now.num_nodes) }
+    ensures { Decides result (EntryRules v.now.num_nodes (sided_of side v.now) (side_of side) r (entry_of e)) }
 {
-    if n <= base as usize {
+    let n = v.num_nodes;
+    if n <= e.base as usize {
         return false;
     }
-    if ranks[base as usize] as usize != r {
+    if v.ranks[e.base as usize] as usize != r {
         return false;
     }
-    if n <= neighbour as usize {
+    if n <= e.neighbour as usize {
         return false;
     }
-    if ranks[neighbour as usize] as usize <= r {
+    if v.ranks[e.neighbour as usize] as usize <= r {
         return false;
     }
-    if weight == 0 {
+    if e.weight == 0 {
         return false;
     }
-    let heavy = rules::MAX_WEIGHT < weight;
+    let heavy = MAX_WEIGHT < e.weight;
     if heavy {
         return false;
     }
-    if first == rules::INVALID {
-        if second == rules::INVALID {
+    if e.in_number == INVALID {
+        if e.out_number == INVALID {
             return true;
         }
     }
-    if forward {
-        opens(
-            n, ranks, s, b, m, w, ts, tb, tm, tw, r, base, neighbour, weight, first, second,
-        )
-    } else {
-        opens(
-            n, ranks, ts, tb, tm, tw, s, b, m, w, r, neighbour, base, weight, first, second,
-        )
+    match side {
+        Side::Forward => opens(
+            n,
+            v.ranks,
+            &v.own,
+            &v.other,
+            r,
+            e.base,
+            e.neighbour,
+            e.weight,
+            e.in_number,
+            e.out_number,
+        ),
+        Side::Backward => opens(
+            n,
+            v.ranks,
+            &v.other,
+            &v.own,
+            r,
+            e.neighbour,
+            e.base,
+            e.weight,
+            e.in_number,
+            e.out_number,
+        ),
     }
 }
 
-// Whether the entries of rank r, from begin to end, keep the rules, and no two lead to one neighbour. A node's mark is one more than
-// the last rank that led to it.
-fn rank_passes(
-    forward: bool,
-    n: usize,
-    ranks: &[u32],
-    s: &[u32],
-    b: &[u32],
-    m: &[u32],
-    w: &[u64],
-    i: &[u32],
-    o: &[u32],
-    ts: &[u32],
-    tb: &[u32],
-    tm: &[u32],
-    tw: &[u64],
-    ti: &[u32],
-    to: &[u32],
-    r: usize,
-    begin: usize,
-    end: usize,
-    marks: &mut [u32; 1024],
-) -> bool
-    requires { Shaped n ranks.now (columns s.now b.now m.now w.now i.now o.now) (columns ts.now tb.now tm.now tw.now ti.now to.now) × (r < n) × (end ≤ length b.now) × Earlier (r + 1) marks.old }
-    ensures { Decides result (RankRules n (sided (side forward) ranks.now (columns s.now b.now m.now w.now i.now o.now) (columns ts.now tb.now tm.now tw.now ti.now to.now)) (side forward) r begin end) × Earlier (r + 1 + 1) marks.new }
+// Whether the entries of rank r keep the rules, and no two lead to one neighbour. A node's mark is one more than the last rank
+// that led to it.
+fn rank_passes(side: Side, v: &Sided<'_>, r: usize, marks: &mut [u32; 1024]) -> bool
+    requires { ShapedSided v.now × (r < v.now.num_nodes) × Earlier (r + 1) marks.old }
+    ensures { Decides result (RankRules v.now.num_nodes (sided_of side v.now) (side_of side) r (get_or v.now.own.starts.now r 0) (get_or v.now.own.starts.now (r + 1) 0)) × Earlier (r + 1 + 1) marks.new }
 {
     let mark = (r + 1) as u32;
-    let mut e = begin;
-    while e < end {
-        let neighbour = m[e];
-        if !passes(
-            forward, n, ranks, s, b, m, w, i, o, ts, tb, tm, tw, ti, to, r, b[e], neighbour, w[e],
-            i[e], o[e],
-        ) {
+    let begin = v.own.starts[r] as usize;
+    let end = v.own.starts[r + 1] as usize;
+    for i in begin..end {
+        let e = v.own.entry(i);
+        if !passes(side, v, r, e) {
             return false;
         }
-        let u = neighbour as usize;
+        let u = e.neighbour as usize;
         if marks[u] == mark {
             return false;
         }
         marks[u] = mark;
-        e += 1;
     }
     true
 }
 
 // Whether the used entries of a table do, rank by rank. No table's marks are another's: an entry each way is a link both ways.
-fn entries_pass(
-    forward: bool,
-    n: usize,
-    ranks: &[u32],
-    s: &[u32],
-    b: &[u32],
-    m: &[u32],
-    w: &[u64],
-    i: &[u32],
-    o: &[u32],
-    ts: &[u32],
-    tb: &[u32],
-    tm: &[u32],
-    tw: &[u64],
-    ti: &[u32],
-    to: &[u32],
-) -> bool
-    requires { Shaped n ranks.now (columns s.now b.now m.now w.now i.now o.now) (columns ts.now tb.now tm.now tw.now ti.now to.now) }
-    ensures { Decides result (EntriesRules n (sided (side forward) ranks.now (columns s.now b.now m.now w.now i.now o.now) (columns ts.now tb.now tm.now tw.now ti.now to.now)) (side forward)) }
+fn entries_pass(side: Side, v: &Sided<'_>) -> bool
+    requires { ShapedSided v.now }
+    ensures { Decides result (EntriesRules v.now.num_nodes (sided_of side v.now) (side_of side)) }
 {
     let mut marks = [0u32; 1024];
-    let mut r = 0;
-    while r < n {
-        if !rank_passes(
-            forward,
-            n,
-            ranks,
-            s,
-            b,
-            m,
-            w,
-            i,
-            o,
-            ts,
-            tb,
-            tm,
-            tw,
-            ti,
-            to,
-            r,
-            s[r] as usize,
-            s[r + 1] as usize,
-            &mut marks,
-        ) {
+    for r in 0..v.num_nodes {
+        if !rank_passes(side, v, r, &mut marks) {
             return false;
         }
-        r += 1;
     }
     true
 }
 
-// The table check: 20 where a table rule is broken, or 0. Any numbers in columns of any lengths may be handed in.
-pub fn check_tables(
-    n: usize,
-    ranks: &[u32],
-    fwd_starts: &[u32],
-    fwd_bases: &[u32],
-    fwd_neighbours: &[u32],
-    fwd_weights: &[u64],
-    fwd_ins: &[u32],
-    fwd_outs: &[u32],
-    bwd_starts: &[u32],
-    bwd_bases: &[u32],
-    bwd_neighbours: &[u32],
-    bwd_weights: &[u64],
-    bwd_ins: &[u32],
-    bwd_outs: &[u32],
-) -> u32
-    ensures { result ≡ check_refusal n (lent ranks.now (columns fwd_starts.now fwd_bases.now fwd_neighbours.now fwd_weights.now fwd_ins.now fwd_outs.now) (columns bwd_starts.now bwd_bases.now bwd_neighbours.now bwd_weights.now bwd_ins.now bwd_outs.now)) }
+// The table check: refused where a table rule is broken. Any numbers in columns of any lengths may be handed in.
+pub fn check_tables(g: &FastGraph<'_>) -> Result<(), Refusal>
+    ensures { code result ≡ check_refusal g.now.num_nodes (hierarchy_of g.now) }
 {
-    if rules::MAX_NODES < n {
-        return 20;
+    let n = g.num_nodes;
+    if MAX_NODES < n {
+        return Err(Refusal::Tables);
     }
-    if ranks.len() < n {
-        return 20;
+    if g.ranks.len() < n {
+        return Err(Refusal::Tables);
     }
-    if !shaped(
-        n,
-        fwd_starts,
-        fwd_bases,
-        fwd_neighbours,
-        fwd_weights,
-        fwd_ins,
-        fwd_outs,
-    ) {
-        return 20;
+    if !shaped(n, &g.fwd) {
+        return Err(Refusal::Tables);
     }
-    if !shaped(
-        n,
-        bwd_starts,
-        bwd_bases,
-        bwd_neighbours,
-        bwd_weights,
-        bwd_ins,
-        bwd_outs,
-    ) {
-        return 20;
+    if !shaped(n, &g.bwd) {
+        return Err(Refusal::Tables);
     }
-    if !permutation::each_once(n, ranks) {
-        return 20;
+    if !permutation::each_once(n, g.ranks) {
+        return Err(Refusal::Tables);
     }
-    if !entries_pass(
-        true,
-        n,
-        ranks,
-        fwd_starts,
-        fwd_bases,
-        fwd_neighbours,
-        fwd_weights,
-        fwd_ins,
-        fwd_outs,
-        bwd_starts,
-        bwd_bases,
-        bwd_neighbours,
-        bwd_weights,
-        bwd_ins,
-        bwd_outs,
-    ) {
-        return 20;
+    if !entries_pass(Side::Forward, &g.seen_from(Side::Forward)) {
+        return Err(Refusal::Tables);
     }
-    if !entries_pass(
-        false,
-        n,
-        ranks,
-        bwd_starts,
-        bwd_bases,
-        bwd_neighbours,
-        bwd_weights,
-        bwd_ins,
-        bwd_outs,
-        fwd_starts,
-        fwd_bases,
-        fwd_neighbours,
-        fwd_weights,
-        fwd_ins,
-        fwd_outs,
-    ) {
-        return 20;
+    if !entries_pass(Side::Backward, &g.seen_from(Side::Backward)) {
+        return Err(Refusal::Tables);
     }
-    0
+    Ok(())
 }
