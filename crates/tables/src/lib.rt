@@ -206,7 +206,8 @@ fn passes(side: Side, v: &Sided<'_>, r: usize, e: Entry) -> bool
     if v.ranks[e.neighbour as usize] as usize <= r {
         return false;
     }
-    if e.weight == 0 {
+    let weightless = e.weight == 0;
+    if weightless {
         return false;
     }
     let heavy = MAX_WEIGHT < e.weight;

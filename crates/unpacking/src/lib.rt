@@ -3,98 +3,53 @@
 // A forward entry opens into one backward and one forward entry, and so does a backward one, each of a node of lower rank: two
 // functions that call each other. They write where there is room, as far as a limit, and return how many nodes there were: with no
 // room at all they count. So a walk is measured before anything is written, and no longer than it takes to pass the limit.
-//
-// Columns: f of the forward table, b of the backward one; b bases, m neighbours, i and o the two numbers. A call hands on no column
-// that it does not read: each would be copied at every opening.
 #![tactic(auto)]
 
 ghost use Rattle.rules.specs.Columns.{forward, backward};
-ghost use Rattle.unpacking.specs.Written.{shown, Unpacking, Wrote};
+ghost use Rattle.tables.specs.Lent.{hierarchy_of};
+ghost use Rattle.unpacking.specs.Written.{Unpacking, Wrote};
 
 use rules::INVALID;
+use tables::FastGraph;
 
 #[cycle(unpack_bwd_unpack_fwd)]
-pub fn unpack_fwd(
-    fb: &[u32],
-    fi: &[u32],
-    fo: &[u32],
-    bm: &[u32],
-    bi: &[u32],
-    bo: &[u32],
-    e: u32,
-    path: &mut [u32],
-    at: usize,
-    limit: usize,
-) -> usize
-    requires { Unpacking (shown fb.now fi.now fo.now bm.now bi.now bo.now) forward e «at» limit }
-    ensures { Wrote (shown fb.now fi.now fo.now bm.now bi.now bo.now) forward e «at» limit result path.old path.new }
+pub fn unpack_fwd(g: &FastGraph<'_>, e: u32, path: &mut [u32], at: usize, limit: usize) -> usize
+    requires { Unpacking (hierarchy_of g.now) forward e «at» limit }
+    ensures { Wrote (hierarchy_of g.now) forward e «at» limit result path.old path.new }
 {
     if limit == 0 {
         return 0;
     }
     let k = e as usize;
-    let a = fi[k];
+    let a = g.fwd.ins[k];
     if a == INVALID {
         if at < path.len() {
-            path[at] = fb[k];
+            path[at] = g.fwd.bases[k];
         }
         return 1;
     }
-    let first = unpack_bwd(fb, fi, fo, bm, bi, bo, a, path, at, limit);
-    let then = unpack_fwd(
-        fb,
-        fi,
-        fo,
-        bm,
-        bi,
-        bo,
-        fo[k],
-        path,
-        at + first,
-        limit - first,
-    );
+    let first = unpack_bwd(g, a, path, at, limit);
+    let then = unpack_fwd(g, g.fwd.outs[k], path, at + first, limit - first);
     first + then
 }
 
 #[cycle(unpack_bwd_unpack_fwd)]
-pub fn unpack_bwd(
-    fb: &[u32],
-    fi: &[u32],
-    fo: &[u32],
-    bm: &[u32],
-    bi: &[u32],
-    bo: &[u32],
-    e: u32,
-    path: &mut [u32],
-    at: usize,
-    limit: usize,
-) -> usize
-    requires { Unpacking (shown fb.now fi.now fo.now bm.now bi.now bo.now) backward e «at» limit }
-    ensures { Wrote (shown fb.now fi.now fo.now bm.now bi.now bo.now) backward e «at» limit result path.old path.new }
+pub fn unpack_bwd(g: &FastGraph<'_>, e: u32, path: &mut [u32], at: usize, limit: usize) -> usize
+    requires { Unpacking (hierarchy_of g.now) backward e «at» limit }
+    ensures { Wrote (hierarchy_of g.now) backward e «at» limit result path.old path.new }
 {
     if limit == 0 {
         return 0;
     }
     let k = e as usize;
-    let a = bi[k];
+    let a = g.bwd.ins[k];
     if a == INVALID {
         if at < path.len() {
-            path[at] = bm[k];
+            path[at] = g.bwd.neighbours[k];
         }
         return 1;
     }
-    let first = unpack_bwd(fb, fi, fo, bm, bi, bo, a, path, at, limit);
-    let then = unpack_fwd(
-        fb,
-        fi,
-        fo,
-        bm,
-        bi,
-        bo,
-        bo[k],
-        path,
-        at + first,
-        limit - first,
-    );
+    let first = unpack_bwd(g, a, path, at, limit);
+    let then = unpack_fwd(g, g.bwd.outs[k], path, at + first, limit - first);
     first + then
 }

@@ -18,7 +18,7 @@ kept c =
       base_rank = c.if-v-e.false;
       neighbour_below = c.if-n-e-2.false;
       neighbour_higher = c.if-v-e-2.false;
-      weight_low = omega (arith, c.if-e-eq0.false);
+      weight_low = omega (arith, c.if-weightless.false);
       weight_high = c.if-heavy.false;
     }
 

@@ -8,13 +8,13 @@ use Rattle.unpacking.proofs.+unpack_bwd_unpack_fwd.Goals as goal
 pub unpack_bwd-returns-then-limit-eq0 : goal.unpack_bwd-returns-then-limit-eq0
 unpack_bwd-returns-then-limit-eq0 t c = record { put = λ u. put_none _ _ _ _ c.if-limit-eq0.true }
 
-pub unpack_bwd-bounds-bi-k : goal.unpack_bwd-bounds-bi-k
+pub unpack_bwd-bounds-g-k : goal.unpack_bwd-bounds-g-k
 unfolding table
-unpack_bwd-bounds-bi-k t c = in_room c.requires.entry
+unpack_bwd-bounds-g-k t c = in_room c.requires.entry
 
-pub unpack_bwd-bounds-bm-k : goal.unpack_bwd-bounds-bm-k
+pub unpack_bwd-bounds-g-k-then-at-path : goal.unpack_bwd-bounds-g-k-then-at-path
 unfolding tails
-unpack_bwd-bounds-bm-k t c = tail_room c.requires.entry
+unpack_bwd-bounds-g-k-then-at-path t c = tail_room c.requires.entry
 
 pub unpack_bwd-returns-then-at-path : goal.unpack_bwd-returns-then-at-path
 unfolding table tails
@@ -31,11 +31,11 @@ unfolding table
 unpack_bwd-unpack_bwd-first-requires t c =
     let u = c.requires.entry in
     let m = c.if-a.false in
-    (rw (← c.decreases) (in_fewer u m), record { n = c.requires.n; h = c.requires.h; entry = open_in u m; fits = c.requires.fits })
+    (rw (← c.decreases) (in_fewer u m), record { n = c.requires.n; entry = open_in u m; fits = c.requires.fits })
 
-pub unpack_bwd-bounds-bo-k : goal.unpack_bwd-bounds-bo-k
+pub unpack_bwd-bounds-g-k-2 : goal.unpack_bwd-bounds-g-k-2
 unfolding table
-unpack_bwd-bounds-bo-k t c = out_room c.requires.entry
+unpack_bwd-bounds-g-k-2 t c = out_room c.requires.entry
 
 pub unpack_bwd-overflow_add-at : goal.unpack_bwd-overflow_add-at
 unfolding table
@@ -53,7 +53,7 @@ unpack_bwd-unpack_fwd-then-requires t c =
     let u = c.requires.entry in
     let m = c.if-a.false in
     let p = c.unpack_bwd-first.ensures.put (open_in u m) in
-    (rw (← c.decreases) (out_fewer u m), record { n = c.requires.n; h = c.requires.h; entry = open_out u m; fits = rest_fits p c.requires.fits })
+    (rw (← c.decreases) (out_fewer u m), record { n = c.requires.n; entry = open_out u m; fits = rest_fits p c.requires.fits })
 
 pub unpack_bwd-overflow_add-result : goal.unpack_bwd-overflow_add-result
 unfolding table
@@ -72,13 +72,13 @@ unpack_bwd-returns t c =
 pub unpack_fwd-returns-then-limit-eq0 : goal.unpack_fwd-returns-then-limit-eq0
 unpack_fwd-returns-then-limit-eq0 t c = record { put = λ u. put_none _ _ _ _ c.if-limit-eq0.true }
 
-pub unpack_fwd-bounds-fi-k : goal.unpack_fwd-bounds-fi-k
+pub unpack_fwd-bounds-g-k : goal.unpack_fwd-bounds-g-k
 unfolding table
-unpack_fwd-bounds-fi-k t c = in_room c.requires.entry
+unpack_fwd-bounds-g-k t c = in_room c.requires.entry
 
-pub unpack_fwd-bounds-fb-k : goal.unpack_fwd-bounds-fb-k
+pub unpack_fwd-bounds-g-k-then-at-path : goal.unpack_fwd-bounds-g-k-then-at-path
 unfolding tails
-unpack_fwd-bounds-fb-k t c = tail_room c.requires.entry
+unpack_fwd-bounds-g-k-then-at-path t c = tail_room c.requires.entry
 
 pub unpack_fwd-returns-then-at-path : goal.unpack_fwd-returns-then-at-path
 unfolding table tails
@@ -95,11 +95,11 @@ unfolding table
 unpack_fwd-unpack_bwd-first-requires t c =
     let u = c.requires.entry in
     let m = c.if-a.false in
-    (rw (← c.decreases) (in_fewer u m), record { n = c.requires.n; h = c.requires.h; entry = open_in u m; fits = c.requires.fits })
+    (rw (← c.decreases) (in_fewer u m), record { n = c.requires.n; entry = open_in u m; fits = c.requires.fits })
 
-pub unpack_fwd-bounds-fo-k : goal.unpack_fwd-bounds-fo-k
+pub unpack_fwd-bounds-g-k-2 : goal.unpack_fwd-bounds-g-k-2
 unfolding table
-unpack_fwd-bounds-fo-k t c = out_room c.requires.entry
+unpack_fwd-bounds-g-k-2 t c = out_room c.requires.entry
 
 pub unpack_fwd-overflow_add-at : goal.unpack_fwd-overflow_add-at
 unfolding table
@@ -117,7 +117,7 @@ unpack_fwd-unpack_fwd-then-requires t c =
     let u = c.requires.entry in
     let m = c.if-a.false in
     let p = c.unpack_bwd-first.ensures.put (open_in u m) in
-    (rw (← c.decreases) (out_fewer u m), record { n = c.requires.n; h = c.requires.h; entry = open_out u m; fits = rest_fits p c.requires.fits })
+    (rw (← c.decreases) (out_fewer u m), record { n = c.requires.n; entry = open_out u m; fits = rest_fits p c.requires.fits })
 
 pub unpack_fwd-overflow_add-result : goal.unpack_fwd-overflow_add-result
 unfolding table
