@@ -134,8 +134,7 @@ pub fn relax(
     ensures { Relaxes neighbours.now weights.now labels.old heap.old labels.new heap.new base len result node weight begin end }
 {
     let mut len = len;
-    let mut e = begin;
-    while e < end {
+    for e in begin..end {
         len = offer(
             labels,
             heap,
@@ -146,7 +145,6 @@ pub fn relax(
             node,
             e as u64,
         );
-        e += 1;
     }
     len
 }
@@ -163,19 +161,17 @@ pub fn enter(
     ensures { Enters nodes.now offsets.now labels.old heap.old labels.new heap.new base result }
 {
     let mut len = 0;
-    let mut k = 0;
-    while k < nodes.len() {
+    for (k, node) in nodes.iter().enumerate() {
         len = offer(
             labels,
             heap,
             base,
             len,
-            nodes[k] as usize,
+            *node as usize,
             offsets[k],
-            nodes[k] as u64,
+            *node as u64,
             INVALID as u64,
         );
-        k += 1;
     }
     len
 }
@@ -185,9 +181,7 @@ pub fn clear(n: usize, labels: &mut [u64])
     requires { 4 * n ≤ length labels.old }
     ensures { Before n 1 labels.new }
 {
-    let mut v = 0;
-    while v < n {
+    for v in 0..n {
         labels[4 * v + 3] = 0;
-        v += 1;
     }
 }

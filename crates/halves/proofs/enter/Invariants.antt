@@ -1,12 +1,8 @@
--- The invariant: the ends that are left, from here, are all of them from the start.
-use Prim.Native.Nat.{◌-◌}
-use lib.ListN.{length}
+-- The ends that are left, from here, are all of them from the start.
 use Rattle.halves.specs.Promises.{Entering}
 use Rattle.halves.proofs.Entering.{Going}
 use Rattle.halves.proofs.enter.Given as goal
 
 abbrev pub invariant-loop-k : goal.invariant-loop-k
-invariant-loop-k l = (given : Entering l.nodes l.offsets l.initial.labels l.initial.heap) × Going l.nodes l.offsets l.initial.labels l.initial.heap l.base given l.labels l.heap l.len l.k
-
-abbrev pub decreases-loop-k : goal.decreases-loop-k
-decreases-loop-k l = length l.nodes - l.k
+invariant-loop-k l =
+    (given : Entering l.nodes l.offsets l.initial.labels l.initial.heap) × Going l.nodes l.offsets l.initial.labels l.initial.heap l.base given l.labels l.heap l.len l.k

@@ -6,15 +6,6 @@ use Rattle.halves.specs.Labels.{put_label}
 use Rattle.halves.proofs.Labels.{offers_new, offers_not, stored_is}
 use Rattle.halves.proofs.offer.Goals as goal
 
-pub load-own-requires : goal.load-own-requires
-load-own-requires c = c.requires.label_room
-
-pub update_node-requires : goal.update_node-requires
-update_node-requires c = c.requires.label_room
-
-pub push-requires : goal.push-requires
-push-requires c = (c.requires.heap_room, c.requires.ordered)
-
 pub returns-then-weight-own : goal.returns-then-weight-own
 returns-then-weight-own c =
     offers_new _ _ _ _ _ _ c.requires.label_room _ _ (omega (arith, c.if-weight-own.true, ap (λ (l : Label). l.weight) c.load-own.ensures))

@@ -1,8 +1,7 @@
 -- Where the arms of the branch meet, the stamp is `kept_stamp`.
 use mathlib.Core.Path.{◌≡◌, ap}
 use Prim.Native.Nat.{◌+◌, ◌*◌}
-use native.Mathlib.Omega.{arith}
-use lib.ListN.{set, length-set}
+use lib.ListN.{set}
 use borrow.Author.Tests.{lt-ltb, le-ltb}
 use Rattle.halves.specs.Labels.{kept_stamp, put_label}
 use Rattle.halves.proofs.update_node.Goals as goal
@@ -17,15 +16,6 @@ joined c =
       | then-stamp-base w ↦ rw (lt-ltb _ _ w.if-stamp-base.true, kept_stamp) w.stamp-is
       | else-stamp-base w ↦ rw (le-ltb _ _ w.if-stamp-base.false, kept_stamp) w.stamp-is
     ]
-
-pub bounds-labels-v-3 : goal.bounds-labels-v-3
-bounds-labels-v-3 c = simp length-set (omega arith)
-
-pub bounds-labels-v-4 : goal.bounds-labels-v-4
-bounds-labels-v-4 c = simp length-set (omega arith)
-
-pub bounds-labels-v-5 : goal.bounds-labels-v-5
-bounds-labels-v-5 c = simp length-set (omega arith)
 
 pub returns : goal.returns
 unfolding put_label
