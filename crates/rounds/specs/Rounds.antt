@@ -6,6 +6,8 @@ use Rattle.rules.specs.Query.{End, Best, Halves, round, rounds}
 use Rattle.heap.specs.Items.{items}
 use Rattle.heap.specs.Shape.{Ordered}
 use Rattle.query_laws.specs.Sound.{Both, both_loads}
+use Rattle.tables.specs.declared.FastGraph.{FastGraph}
+use Rattle.tables.specs.declared.Sided.{Sided}
 use Rattle.halves.specs.Labels.{Keeps, half}
 use Rattle.turns.specs.Turning.{View}
 
@@ -52,3 +54,24 @@ pub record Ran (n : ℕ) (ranks fs fm fw bs bm bw fl bl fh bh : List ℕ) (base 
       rounds t.rounding.h fuel (halves n base fl bl fh bh f b best) ≡ halves n base fl' bl' fh' bh' 0 0 best'
   pub fwd_stamps : Keeps base fl fl'
   pub bwd_stamps : Keeps base bl bl'
+
+-- the same of the code's tables, the forward one first
+abbrev pub RoundingOn : Sided → List ℕ → List ℕ → List ℕ → List ℕ → ℕ → ℕ → ℕ → Best → Type 0
+RoundingOn t =
+    Rounding t.num_nodes t.ranks.now t.own.starts.now t.own.neighbours.now t.own.weights.now t.other.starts.now
+    t.other.neighbours.now t.other.weights.now
+
+abbrev pub RoundedOn : Sided → List ℕ → List ℕ → List ℕ → List ℕ → ℕ → ℕ → ℕ → Best → List ℕ → List ℕ → List ℕ → List ℕ → ℕ → ℕ → Best → Type 0
+RoundedOn t =
+    Rounded t.num_nodes t.ranks.now t.own.starts.now t.own.neighbours.now t.own.weights.now t.other.starts.now
+    t.other.neighbours.now t.other.weights.now
+
+abbrev pub RunningOn : FastGraph → List ℕ → List ℕ → List ℕ → List ℕ → ℕ → ℕ → ℕ → Best → ℕ → Type 0
+RunningOn g =
+    Running g.num_nodes g.ranks.now g.fwd.starts.now g.fwd.neighbours.now g.fwd.weights.now g.bwd.starts.now
+    g.bwd.neighbours.now g.bwd.weights.now
+
+abbrev pub RanOn : FastGraph → List ℕ → List ℕ → List ℕ → List ℕ → ℕ → ℕ → ℕ → Best → ℕ → List ℕ → List ℕ → List ℕ → List ℕ → Best → Type 0
+RanOn g =
+    Ran g.num_nodes g.ranks.now g.fwd.starts.now g.fwd.neighbours.now g.fwd.weights.now g.bwd.starts.now
+    g.bwd.neighbours.now g.bwd.weights.now

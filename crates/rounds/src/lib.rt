@@ -1,9 +1,12 @@
 // Forward and backward turns, one after the other, until both heaps are empty.
 #![tactic(auto)]
 
+ghost use Rattle.std.specs.Prelude.{◌≡◌};
+ghost use Rattle.tables.specs.Lent.{turned};
 ghost use Rattle.turns.specs.Turning.{of};
-ghost use Rattle.rounds.specs.Rounds.{Rounding, Rounded, Running, Ran};
+ghost use Rattle.rounds.specs.Rounds.{RoundingOn, RoundedOn, RunningOn, RanOn};
 
+use tables::{FastGraph, Side, Sided};
 use turns::{Best, turn};
 
 // Where a round leaves both heaps, and the best sum.
@@ -14,17 +17,10 @@ pub struct Lengths {
     pub best: Best,
 }
 
-// A forward turn, then a backward turn, the tables swapped. Columns: f of the forward table, b of the backward one; s starts,
-// m neighbours, w weights; l labels and h heap of either side.
+// A forward turn, then a backward turn. l labels and h heap of either side.
 fn round(
-    n: usize,
-    ranks: &[u32],
-    fs: &[u32],
-    fm: &[u32],
-    fw: &[u64],
-    bs: &[u32],
-    bm: &[u32],
-    bw: &[u64],
+    fwd: &Sided<'_>,
+    bwd: &Sided<'_>,
     fl: &mut [u64],
     bl: &mut [u64],
     fh: &mut [u64],
@@ -34,12 +30,12 @@ fn round(
     b: usize,
     best: Best,
 ) -> Lengths
-    requires { Rounding n ranks.now fs.now fm.now fw.now bs.now bm.now bw.now fl.old bl.old fh.old bh.old base f b (of best) }
-    ensures { Rounded n ranks.now fs.now fm.now fw.now bs.now bm.now bw.now fl.old bl.old fh.old bh.old base f b (of best) fl.new bl.new fh.new bh.new result.fwd result.bwd (of result.best) }
+    requires { (bwd.now ≡ turned fwd.now) × RoundingOn fwd.now fl.old bl.old fh.old bh.old base f b (of best) }
+    ensures { RoundedOn fwd.now fl.old bl.old fh.old bh.old base f b (of best) fl.new bl.new fh.new bh.new result.fwd result.bwd (of result.best) }
 {
-    let x = turn(n, ranks, fs, fm, fw, bs, bm, bw, fl, fh, bl, base, f, best);
+    let x = turn(fwd, fl, fh, bl, base, f, best);
     let met = x.best;
-    let y = turn(n, ranks, bs, bm, bw, fs, fm, fw, bl, bh, fl, base, b, met);
+    let y = turn(bwd, bl, bh, fl, base, b, met);
     let met = y.best;
     Lengths {
         fwd: x.len,
@@ -50,14 +46,7 @@ fn round(
 
 // Each round takes an item out, so `fuel`, which is enough for all of them, counts them down; nothing else reads it.
 pub fn rounds(
-    n: usize,
-    ranks: &[u32],
-    fs: &[u32],
-    fm: &[u32],
-    fw: &[u64],
-    bs: &[u32],
-    bm: &[u32],
-    bw: &[u64],
+    g: &FastGraph<'_>,
     fl: &mut [u64],
     bl: &mut [u64],
     fh: &mut [u64],
@@ -68,17 +57,17 @@ pub fn rounds(
     best: Best,
     fuel: usize,
 ) -> Best
-    requires { Running n ranks.now fs.now fm.now fw.now bs.now bm.now bw.now fl.old bl.old fh.old bh.old base f b (of best) fuel }
-    ensures { Ran n ranks.now fs.now fm.now fw.now bs.now bm.now bw.now fl.old bl.old fh.old bh.old base f b (of best) fuel fl.new bl.new fh.new bh.new (of result) }
+    requires { RunningOn g.now fl.old bl.old fh.old bh.old base f b (of best) fuel }
+    ensures { RanOn g.now fl.old bl.old fh.old bh.old base f b (of best) fuel fl.new bl.new fh.new bh.new (of result) }
 {
+    let fwd = g.seen_from(Side::Forward);
+    let bwd = g.seen_from(Side::Backward);
     let mut f = f;
     let mut b = b;
     let mut best = best;
     let mut left = fuel;
     while 0 < f + b {
-        let r = round(
-            n, ranks, fs, fm, fw, bs, bm, bw, fl, bl, fh, bh, base, f, b, best,
-        );
+        let r = round(&fwd, &bwd, fl, bl, fh, bh, base, f, b, best);
         f = r.fwd;
         b = r.bwd;
         best = r.best;

@@ -31,6 +31,10 @@ abbrev pub seen_from : FastGraph → Seen → Sided
 seen_from g Forward = record { num_nodes = g.num_nodes; ranks = g.ranks; own = g.fwd; other = g.bwd }
 seen_from g Backward = record { num_nodes = g.num_nodes; ranks = g.ranks; own = g.bwd; other = g.fwd }
 
+-- the same from the other side
+abbrev pub turned : Sided → Sided
+turned v = record { num_nodes = v.num_nodes; ranks = v.ranks; own = v.other; other = v.own }
+
 -- a side's own table and the other, each at its place
 abbrev pub either : Side → Table → Table → Table
 either forward own other = own

@@ -17,7 +17,7 @@ use Rattle.rules.specs.Query.{stalls}
 use Rattle.rules.proofs.Prefixes.{in_range}
 use Rattle.walks.proofs.Places.{place_entry, place_used, places_within, in_places}
 use Rattle.tables.specs.Shapes.{Shape}
-use Rattle.tables.proofs.Entries.{get_d_any, entry_read, even_columns}
+use Rattle.tables.proofs.Entries.{get_d_any, entry_read, each_within}
 use Rattle.tables.proofs.Check.{shape_of}
 use Rattle.halves.specs.Labels.{seen, half}
 use Rattle.halves.proofs.Labels.{label_in}
@@ -62,7 +62,7 @@ module _ (n : ℕ) (h : Hierarchy) (rules : TableRules n h) (v : ℕ) (below : v
         let r = place_entry n h rules s v below e m in
         let inside : e < length (table h s).bases = omega (arith, place_used n h rules s v below e m, shape.end_within) in
         let is = entry_read n (table h s) shape e inside in
-        let long = even_columns n (table h s) shape in
+        let long = each_within (table h s) shape.columns in
         record {
           neighbour = ap (λ (x : Entry). x.neighbour) is;
           weight = ap (λ (x : Entry). x.weight) is;

@@ -19,7 +19,7 @@ use Rattle.heap.specs.Items.{items, sorted}
 use Rattle.heap.specs.Shape.{Ordered}
 use Rattle.heap.specs.Promises.{Popped}
 use Rattle.heap.proofs.Laws.{holds_size, empty_sorted}
-use Rattle.tables.proofs.Entries.{even_columns}
+use Rattle.tables.proofs.Entries.{each_within}
 use Rattle.tables.proofs.Check.{shape_of}
 use Rattle.halves.specs.Labels.{stamp, seen, half}
 use Rattle.halves.specs.Promises.{Reads}
@@ -267,7 +267,7 @@ module _ (n : ℕ) (ranks starts neighbours weights ts tm tw labels heap₀ faci
 
             long : (length (table h s).neighbours ≡ length (table h s).bases) × (length (table h s).weights ≡ length (table h s).bases) ×
                 (length (table h s).in_numbers ≡ length (table h s).bases) × (length (table h s).out_numbers ≡ length (table h s).bases)
-            long = even_columns n (table h s) (shape_of n h s t.rules)
+            long = each_within (table h s) (shape_of n h s t.rules).columns
 
         -- the node is settled
         pub done_settles : scanned ≡ false → {now : List ℕ} → now ≡ labels → (labels' heap'' : List ℕ) (k : ℕ) →

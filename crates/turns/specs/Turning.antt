@@ -10,6 +10,7 @@ use Rattle.heap.specs.Shape.{Ordered}
 use Rattle.query_laws.specs.Sound.{Sound}
 use Rattle.halves.specs.Labels.{Keeps, seen, half}
 use Rattle.halves.specs.Promises.{Relaxing, Reads}
+use Rattle.tables.specs.declared.Sided.{Sided}
 use Rattle.turns.specs.declared.Best.{Best as Held}
 
 abbrev pub best : ℕ → ℕ → Best
@@ -60,6 +61,12 @@ pub record Turning (n : ℕ) (ranks starts neighbours weights ts tm tw labels he
   pub facing_low : (v : ℕ) → v < n → (seen facing base v).weight < no_weight → (seen facing base v).weight < 2 ^ 63
   pub stamps : base + 1 < 2 ^ 64
 
+-- the same of the code's tables
+abbrev pub TurningOn : Sided → List ℕ → List ℕ → List ℕ → ℕ → ℕ → ℕ → Type 0
+TurningOn t =
+    Turning t.num_nodes t.ranks.now t.own.starts.now t.own.neighbours.now t.own.weights.now t.other.starts.now
+    t.other.neighbours.now t.other.weights.now
+
 -- whatever search the labels faced are of, the turn is the definition's
 pub record Turns (n : ℕ) (ranks starts neighbours weights ts tm tw labels heap facing : List ℕ) (base len : ℕ) (b : Best) (labels' heap' : List ℕ) (r : ℕ) (b' : Best) : Type 0 where
   pub turned : (t : Turning n ranks starts neighbours weights ts tm tw labels heap facing base len b.sum) (y : Half) →
@@ -69,3 +76,8 @@ pub record Turns (n : ℕ) (ranks starts neighbours weights ts tm tw labels heap
   pub ordered : Ordered (items heap' r)
   pub held : 2 * r ≤ length heap'
   pub stamps : Keeps base labels labels'
+
+abbrev pub TurnsOn : Sided → List ℕ → List ℕ → List ℕ → ℕ → ℕ → Best → List ℕ → List ℕ → ℕ → Best → Type 0
+TurnsOn t =
+    Turns t.num_nodes t.ranks.now t.own.starts.now t.own.neighbours.now t.own.weights.now t.other.starts.now
+    t.other.neighbours.now t.other.weights.now

@@ -6,10 +6,11 @@ ghost use Rattle.std.specs.Prelude.{◌≡◌, ◌+◌, ◌*◌, ◌^◌, ◌<�
 ghost use Rattle.rules.specs.Numbers.{no_weight};
 ghost use Rattle.rules.specs.Query.{improve};
 ghost use Rattle.halves.specs.Labels.{seen};
-ghost use Rattle.turns.specs.Turning.{of, best, Settling, Settles, Turning, Turns};
+ghost use Rattle.turns.specs.Turning.{of, best, Settling, Settles, TurningOn, TurnsOn};
 
 use halves::{get_weight, is_settled};
 use rules::WEIGHT_MAX;
+use tables::{Sided, Table};
 
 // The best sum so far and its meeting node; the marks where there is none.
 #[derive(Clone, Copy)]
@@ -62,8 +63,7 @@ fn meet(facing: &[u64], base: u64, v: usize, weight: u64, best: Best) -> Best
 
 // Offers along the node's entries, and marks it.
 fn settle(
-    neighbours: &[u32],
-    weights: &[u64],
+    own: &Table<'_>,
     labels: &mut [u64],
     heap: &mut [u64],
     base: u64,
@@ -73,11 +73,20 @@ fn settle(
     begin: usize,
     end: usize,
 ) -> usize
-    requires { Settling neighbours.now weights.now labels.old heap.old base len v weight begin end }
-    ensures { Settles neighbours.now weights.now labels.old heap.old labels.new heap.new base len result v weight begin end }
+    requires { Settling own.now.neighbours.now own.now.weights.now labels.old heap.old base len v weight begin end }
+    ensures { Settles own.now.neighbours.now own.now.weights.now labels.old heap.old labels.new heap.new base len result v weight begin end }
 {
     let r = halves::relax(
-        neighbours, weights, labels, heap, base, len, v as u64, weight, begin, end,
+        own.neighbours,
+        own.weights,
+        labels,
+        heap,
+        base,
+        len,
+        v as u64,
+        weight,
+        begin,
+        end,
     );
     halves::set_settled(labels, base, v);
     r
@@ -85,14 +94,7 @@ fn settle(
 
 // It ends at the first item that it settles, or at one heavier than the best, which is taken out and lost, or with its heap empty.
 pub fn turn(
-    n: usize,
-    ranks: &[u32],
-    starts: &[u32],
-    neighbours: &[u32],
-    weights: &[u64],
-    other_starts: &[u32],
-    other_neighbours: &[u32],
-    other_weights: &[u64],
+    t: &Sided<'_>,
     labels: &mut [u64],
     heap: &mut [u64],
     facing: &[u64],
@@ -100,8 +102,8 @@ pub fn turn(
     len: usize,
     best: Best,
 ) -> Outcome
-    requires { Turning n ranks.now starts.now neighbours.now weights.now other_starts.now other_neighbours.now other_weights.now labels.old heap.old facing.now base len best.sum }
-    ensures { Turns n ranks.now starts.now neighbours.now weights.now other_starts.now other_neighbours.now other_weights.now labels.old heap.old facing.now base len (of best) labels.new heap.new result.len (of result.best) }
+    requires { TurningOn t.now labels.old heap.old facing.now base len best.sum }
+    ensures { TurnsOn t.now labels.old heap.old facing.now base len (of best) labels.new heap.new result.len (of result.best) }
 {
     let mut len = len;
     let mut best = best;
@@ -116,30 +118,26 @@ pub fn turn(
         if best.sum < weight {
             break 'outer;
         }
-        let r = ranks[v] as usize;
-        let end = other_starts[r + 1] as usize;
-        let mut e = other_starts[r] as usize;
-        while e < end {
+        let r = t.ranks[v] as usize;
+        for e in t.other.starts[r] as usize..t.other.starts[r + 1] as usize {
             if less(
-                get_weight(labels, base, other_neighbours[e] as usize),
-                other_weights[e],
+                get_weight(labels, base, t.other.neighbours[e] as usize),
+                t.other.weights[e],
                 weight,
             ) {
                 continue 'outer;
             }
-            e += 1;
         }
         len = settle(
-            neighbours,
-            weights,
+            &t.own,
             labels,
             heap,
             base,
             len,
             v,
             weight,
-            starts[r] as usize,
-            starts[r + 1] as usize,
+            t.own.starts[r] as usize,
+            t.own.starts[r + 1] as usize,
         );
         best = meet(facing, base, v, weight, best);
         break 'outer;

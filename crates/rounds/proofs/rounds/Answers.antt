@@ -1,5 +1,7 @@
 -- The invariant: the rounds that are left, from here, are all of them from the start.
 use native.Mathlib.Omega.{arith}
+use mathlib.Core.Path.{sym, ap, ◌∙◌}
+use Rattle.tables.specs.Lent.{turned}
 use Rattle.rounds.proofs.Going.{going_first, rounding, some_fuel, going_on, done}
 use Rattle.rounds.proofs.rounds.Goals as goal
 
@@ -10,7 +12,8 @@ pub overflow_add-f : goal.overflow_add-f
 overflow_add-f c = let g = c.loop-f.invariant c.requires in omega (arith, g.fwd.held, g.bwd.held)
 
 pub round-r-requires : goal.round-r-requires
-round-r-requires c = rounding _ _ _ _ _ _ _ _ _ _ _ _ _ _ _ _ _ c.requires _ _ _ _ _ _ _ _ (c.loop-f.invariant c.requires)
+round-r-requires c =
+    (c.seen_from-bwd.ensures ∙ sym (ap turned c.seen_from-fwd.ensures), rw c.seen_from-fwd.ensures (rounding _ _ _ _ _ _ _ _ _ _ _ _ _ _ _ _ _ c.requires _ _ _ _ _ _ _ _ (c.loop-f.invariant c.requires)))
 
 pub overflow_sub-left : goal.overflow_sub-left
 overflow_sub-left c = some_fuel _ _ _ _ _ _ _ _ _ _ _ _ _ _ _ _ _ c.requires _ _ _ _ _ _ _ _ (c.loop-f.invariant c.requires) c.loop-f-test.true
@@ -21,7 +24,7 @@ loop-f-smaller c = omega (arith, some_fuel _ _ _ _ _ _ _ _ _ _ _ _ _ _ _ _ _ c.r
 pub loop-f-preserved : goal.loop-f-preserved
 loop-f-preserved c =
     λ t.
-    going_on _ _ _ _ _ _ _ _ _ _ _ _ _ _ _ _ _ t _ _ _ _ _ _ _ _ (c.loop-f.invariant t) c.loop-f-test.true _ _ _ _ _ _ _ c.round-r.auto.fl c.round-r.auto.bl c.round-r.auto.fh c.round-r.auto.bh c.round-r.ensures
+    going_on _ _ _ _ _ _ _ _ _ _ _ _ _ _ _ _ _ t _ _ _ _ _ _ _ _ (c.loop-f.invariant t) c.loop-f-test.true _ _ _ _ _ _ _ c.round-r.auto.fl c.round-r.auto.bl c.round-r.auto.fh c.round-r.auto.bh (rw c.seen_from-fwd.ensures at c.round-r.ensures)
 
 pub returns : goal.returns
 returns c =

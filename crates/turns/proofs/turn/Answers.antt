@@ -19,7 +19,7 @@ use Rattle.turns.proofs.turn.Goals as goal
 use Rattle.turns.proofs.turn.Goals.{After-pop-top}
 
 -- the node of the item is one
-inside : (p : After-pop-top) → p.pop-top.result.node < p.args.n
+inside : (p : After-pop-top) → p.pop-top.result.node < p.args.t.now.num_nodes
 inside p =
     node_below _ _ _ _ _ _ _ _ _ _ _ _ _ (of p.args.best) p.requires _ _ (p.outer.invariant.2 p.requires) p.outer-test.true _ _ p.pop-top.ensures
 
@@ -29,71 +29,35 @@ outer-init c = (refl, refl, λ t. going_first _ _ _ _ _ _ _ _ _ _ _ _ _ (of c.ar
 pub pop-top-requires : goal.pop-top-requires
 pop-top-requires c = let g = c.outer.invariant.2 c.requires in (c.outer-test.true, g.held, g.ordered)
 
-pub overflow_sub-len : goal.overflow_sub-len
-overflow_sub-len c = omega (arith, c.outer-test.true)
-
 pub is_settled-requires : goal.is_settled-requires
 is_settled-requires c = omega (arith, label_fits _ _ _ _ _ _ _ _ _ _ _ _ _ (of c.args.best) c.requires _ _ (c.outer.invariant.2 c.requires) c.outer-test.true _ _ c.pop-top.ensures, ap length c.outer.invariant.0)
-
-pub outer-smaller-then-is_settled : goal.outer-smaller-then-is_settled
-outer-smaller-then-is_settled c = omega (arith, c.outer-test.true)
 
 pub outer-preserved-then-is_settled : goal.outer-preserved-then-is_settled
 outer-preserved-then-is_settled c = (c.outer.invariant.0, c.outer.invariant.1, λ t. next_settled _ _ _ _ _ _ _ _ _ _ _ _ _ (of c.args.best) (t) _ _ (c.outer.invariant.2 (t)) c.outer-test.true _ _ c.pop-top.ensures (ap (λ (l : List ℕ). ltb c.args.base (stamp l c.pop-top.result.node)) (sym c.outer.invariant.0) ∙ sym c.is_settled.ensures ∙ c.if-is_settled.true))
 
-pub offset_bounds-ranks-v : goal.offset_bounds-ranks-v
-offset_bounds-ranks-v c = omega (arith, ranks_long _ _ _ _ _ _ _ _ _ _ _ _ _ (of c.args.best) c.requires _ (inside (goal.at.offset_bounds-ranks-v c).After-pop-top))
+pub offset_bounds-t-v : goal.offset_bounds-t-v
+offset_bounds-t-v c = omega (arith, ranks_long _ _ _ _ _ _ _ _ _ _ _ _ _ (of c.args.best) c.requires _ (inside (goal.at.offset_bounds-t-v c).After-pop-top))
 
-pub bounds-ranks-v : goal.bounds-ranks-v
-bounds-ranks-v c = ranks_long _ _ _ _ _ _ _ _ _ _ _ _ _ (of c.args.best) c.requires _ (inside (goal.at.bounds-ranks-v c).After-pop-top)
+pub bounds-t-v : goal.bounds-t-v
+bounds-t-v c = ranks_long _ _ _ _ _ _ _ _ _ _ _ _ _ (of c.args.best) c.requires _ (inside (goal.at.bounds-t-v c).After-pop-top)
 
-pub overflow_cast-r : goal.overflow_cast-r
-overflow_cast-r c = omega (arith, c.type_inv.ranks c.pop-top.result.node)
+pub bounds-t-r : goal.bounds-t-r
+bounds-t-r c = omega (arith, other_starts_long _ _ _ _ _ _ _ _ _ _ _ _ _ (of c.args.best) c.requires _ (inside (goal.at.bounds-t-r c).After-pop-top))
 
-pub overflow_add-end : goal.overflow_add-end
-overflow_add-end c = omega (arith, r_below _ _ _ _ _ _ _ _ _ _ _ _ _ (of c.args.best) c.requires _ (inside (goal.at.overflow_add-end c).After-pop-top), c.requires.rules.nodes)
-
-pub offset_bounds-other_starts-r : goal.offset_bounds-other_starts-r
-offset_bounds-other_starts-r c = omega (arith, r_below _ _ _ _ _ _ _ _ _ _ _ _ _ (of c.args.best) c.requires _ (inside (goal.at.offset_bounds-other_starts-r c).After-pop-top), c.requires.rules.nodes)
-
-pub bounds-other_starts-r : goal.bounds-other_starts-r
-bounds-other_starts-r c = other_starts_long _ _ _ _ _ _ _ _ _ _ _ _ _ (of c.args.best) c.requires _ (inside (goal.at.bounds-other_starts-r c).After-pop-top)
-
-pub overflow_cast-end : goal.overflow_cast-end
-overflow_cast-end c = omega (arith, c.type_inv.other_starts ((get_or c.args.ranks.now c.pop-top.result.node 0) + 1))
-
-pub offset_bounds-other_starts-r-in-outer : goal.offset_bounds-other_starts-r-in-outer
-offset_bounds-other_starts-r-in-outer c = omega (arith, r_below _ _ _ _ _ _ _ _ _ _ _ _ _ (of c.args.best) c.requires _ (inside (goal.at.offset_bounds-other_starts-r-in-outer c).After-pop-top), c.requires.rules.nodes)
-
-pub bounds-other_starts-r-in-outer : goal.bounds-other_starts-r-in-outer
-bounds-other_starts-r-in-outer c = omega (arith, other_starts_long _ _ _ _ _ _ _ _ _ _ _ _ _ (of c.args.best) c.requires _ (inside (goal.at.bounds-other_starts-r-in-outer c).After-pop-top))
-
-pub overflow_cast-e : goal.overflow_cast-e
-overflow_cast-e c = omega (arith, c.type_inv.other_starts (get_or c.args.ranks.now c.pop-top.result.node 0))
+pub bounds-t-r-in-outer : goal.bounds-t-r-in-outer
+bounds-t-r-in-outer c = other_starts_long _ _ _ _ _ _ _ _ _ _ _ _ _ (of c.args.best) c.requires _ (inside (goal.at.bounds-t-r-in-outer c).After-pop-top)
 
 pub loop-e-init : goal.loop-e-init
-loop-e-init c = (omega arith, refl)
+loop-e-init c = refl
 
-pub offset_bounds-other_neighbours-e : goal.offset_bounds-other_neighbours-e
-offset_bounds-other_neighbours-e c = omega (arith, c.loop-e-test.true, c.type_inv.other_starts ((get_or c.args.ranks.now c.pop-top.result.node 0) + 1))
-
-pub bounds-other_neighbours-e : goal.bounds-other_neighbours-e
-bounds-other_neighbours-e c = scan_neighbour _ _ _ _ _ _ _ _ _ _ _ _ _ (of c.args.best) c.requires _ (inside (goal.at.bounds-other_neighbours-e c).After-pop-top) _ c.loop-e.invariant.0 c.loop-e-test.true
-
-pub overflow_cast-other_neighbours : goal.overflow_cast-other_neighbours
-overflow_cast-other_neighbours c = omega (arith, c.type_inv.other_neighbours c.loop-e.e)
+pub bounds-t-e : goal.bounds-t-e
+bounds-t-e c = scan_neighbour _ _ _ _ _ _ _ _ _ _ _ _ _ (of c.args.best) c.requires _ (inside (goal.at.bounds-t-e c).After-pop-top) c.loop-e.e (omega arith) (omega arith)
 
 pub get_weight-requires : goal.get_weight-requires
-get_weight-requires c = omega (arith, scan_label _ _ _ _ _ _ _ _ _ _ _ _ _ (of c.args.best) c.requires _ (inside (goal.at.get_weight-requires c).After-pop-top) _ c.loop-e.invariant.0 c.loop-e-test.true, ap length c.outer.invariant.0)
+get_weight-requires c = omega (arith, scan_label _ _ _ _ _ _ _ _ _ _ _ _ _ (of c.args.best) c.requires _ (inside (goal.at.get_weight-requires c).After-pop-top) c.loop-e.e (omega arith) (omega arith), ap length c.outer.invariant.0)
 
-pub offset_bounds-other_weights-e : goal.offset_bounds-other_weights-e
-offset_bounds-other_weights-e c = omega (arith, c.loop-e-test.true, c.type_inv.other_starts ((get_or c.args.ranks.now c.pop-top.result.node 0) + 1))
-
-pub bounds-other_weights-e : goal.bounds-other_weights-e
-bounds-other_weights-e c = scan_weight _ _ _ _ _ _ _ _ _ _ _ _ _ (of c.args.best) c.requires _ (inside (goal.at.bounds-other_weights-e c).After-pop-top) _ c.loop-e.invariant.0 c.loop-e-test.true
-
-pub outer-smaller : goal.outer-smaller
-outer-smaller c = omega (arith, c.outer-test.true)
+pub bounds-t-e-in-loop-e : goal.bounds-t-e-in-loop-e
+bounds-t-e-in-loop-e c = scan_weight _ _ _ _ _ _ _ _ _ _ _ _ _ (of c.args.best) c.requires _ (inside (goal.at.bounds-t-e-in-loop-e c).After-pop-top) c.loop-e.e (omega arith) (omega arith)
 
 pub outer-preserved : goal.outer-preserved
 outer-preserved c = (
@@ -101,38 +65,17 @@ outer-preserved c = (
   c.outer.invariant.1,
   λ t.
       next_stalled _ _ _ _ _ _ _ _ _ _ _ _ _ (of c.args.best) (t) _ _ (c.outer.invariant.2 (t)) c.outer-test.true _ _ c.pop-top.ensures (ap (λ (l : List ℕ). ltb c.args.base (stamp l c.pop-top.result.node)) (sym c.outer.invariant.0) ∙ sym c.is_settled.ensures ∙ c.if-is_settled.false) (le-ltb c.args.best.sum c.pop-top.result.weight (omega (arith, c.if-best-weight.false, ap (λ (x : Held). x.sum) c.outer.invariant.1)))
-      (ap (λ (l : List ℕ). lower_by l c.args.base c.args.other_neighbours.now c.args.other_weights.now c.pop-top.result.weight (range (get_or c.args.other_starts.now (get_or c.args.ranks.now c.pop-top.result.node 0) 0) (get_or c.args.other_starts.now ((get_or c.args.ranks.now c.pop-top.result.node 0) + 1) 0))) (sym c.outer.invariant.0) ∙ sym c.loop-e.invariant.1 ∙ hit _ _ _ _ _ _ _ c.loop-e-test.true (ap (λ (w : ℕ). ltb (w + get_or c.args.other_weights.now c.loop-e.e 0) c.pop-top.result.weight) (sym c.get_weight.ensures) ∙ sym c.less.ensures ∙ c.if-less.true)),
+      (ap (λ (l : List ℕ). lower_by l c.args.base c.args.t.now.other.neighbours.now c.args.t.now.other.weights.now c.pop-top.result.weight (range (get_or c.args.t.now.other.starts.now (get_or c.args.t.now.ranks.now c.pop-top.result.node 0) 0) (get_or c.args.t.now.other.starts.now ((get_or c.args.t.now.ranks.now c.pop-top.result.node 0) + 1) 0))) (sym c.outer.invariant.0) ∙ sym c.loop-e.invariant ∙ hit _ _ _ _ _ _ _ (omega arith) (ap (λ (w : ℕ). ltb (w + get_or c.args.t.now.other.weights.now c.loop-e.e 0) c.pop-top.result.weight) (sym c.get_weight.ensures) ∙ sym c.less.ensures ∙ c.if-less.true)),
 )
 
-pub overflow_add-e : goal.overflow_add-e
-overflow_add-e c = omega (arith, c.loop-e-test.true, c.type_inv.other_starts ((get_or c.args.ranks.now c.pop-top.result.node 0) + 1))
-
-pub loop-e-smaller : goal.loop-e-smaller
-loop-e-smaller c = omega (arith, c.loop-e-test.true)
-
 pub loop-e-preserved : goal.loop-e-preserved
-loop-e-preserved c = (omega (arith, c.loop-e.invariant.0), miss _ _ _ _ _ _ _ c.loop-e-test.true (ap (λ (w : ℕ). ltb (w + get_or c.args.other_weights.now c.loop-e.e 0) c.pop-top.result.weight) (sym c.get_weight.ensures) ∙ sym c.less.ensures ∙ c.if-less.false) ∙ c.loop-e.invariant.1)
+loop-e-preserved c = miss _ _ _ _ _ _ _ (omega arith) (ap (λ (w : ℕ). ltb (w + get_or c.args.t.now.other.weights.now c.loop-e.e 0) c.pop-top.result.weight) (sym c.get_weight.ensures) ∙ sym c.less.ensures ∙ c.if-less.false) ∙ c.loop-e.invariant
 
-pub offset_bounds-starts-r : goal.offset_bounds-starts-r
-offset_bounds-starts-r c = omega (arith, r_below _ _ _ _ _ _ _ _ _ _ _ _ _ (of c.args.best) c.requires _ (inside (goal.at.offset_bounds-starts-r c).After-pop-top), c.requires.rules.nodes)
+pub bounds-t-r-in-outer-2 : goal.bounds-t-r-in-outer-2
+bounds-t-r-in-outer-2 c = omega (arith, starts_long _ _ _ _ _ _ _ _ _ _ _ _ _ (of c.args.best) c.requires _ (inside (goal.at.bounds-t-r-in-outer-2 c).After-pop-top))
 
-pub bounds-starts-r : goal.bounds-starts-r
-bounds-starts-r c = omega (arith, starts_long _ _ _ _ _ _ _ _ _ _ _ _ _ (of c.args.best) c.requires _ (inside (goal.at.bounds-starts-r c).After-pop-top))
-
-pub overflow_cast-starts : goal.overflow_cast-starts
-overflow_cast-starts c = omega (arith, c.type_inv.starts (get_or c.args.ranks.now c.pop-top.result.node 0))
-
-pub overflow_add-r : goal.overflow_add-r
-overflow_add-r c = omega (arith, r_below _ _ _ _ _ _ _ _ _ _ _ _ _ (of c.args.best) c.requires _ (inside (goal.at.overflow_add-r c).After-pop-top), c.requires.rules.nodes)
-
-pub offset_bounds-starts-r-in-outer : goal.offset_bounds-starts-r-in-outer
-offset_bounds-starts-r-in-outer c = omega (arith, r_below _ _ _ _ _ _ _ _ _ _ _ _ _ (of c.args.best) c.requires _ (inside (goal.at.offset_bounds-starts-r-in-outer c).After-pop-top), c.requires.rules.nodes)
-
-pub bounds-starts-r-in-outer : goal.bounds-starts-r-in-outer
-bounds-starts-r-in-outer c = starts_long _ _ _ _ _ _ _ _ _ _ _ _ _ (of c.args.best) c.requires _ (inside (goal.at.bounds-starts-r-in-outer c).After-pop-top)
-
-pub overflow_cast-starts-in-outer : goal.overflow_cast-starts-in-outer
-overflow_cast-starts-in-outer c = omega (arith, c.type_inv.starts ((get_or c.args.ranks.now c.pop-top.result.node 0) + 1))
+pub bounds-t-r-in-outer-3 : goal.bounds-t-r-in-outer-3
+bounds-t-r-in-outer-3 c = starts_long _ _ _ _ _ _ _ _ _ _ _ _ _ (of c.args.best) c.requires _ (inside (goal.at.bounds-t-r-in-outer-3 c).After-pop-top)
 
 pub settle-len-requires : goal.settle-len-requires
 settle-len-requires c = rw c.outer.invariant.0 (settling _ _ _ _ _ _ _ _ _ _ _ _ _ (of c.args.best) c.requires _ _ (c.outer.invariant.2 c.requires) c.outer-test.true _ _ c.pop-top.ensures (ap (λ (l : List ℕ). ltb c.args.base (stamp l c.pop-top.result.node)) (sym c.outer.invariant.0) ∙ sym c.is_settled.ensures ∙ c.if-is_settled.false) (le-ltb c.args.best.sum c.pop-top.result.weight (omega (arith, c.if-best-weight.false, ap (λ (x : Held). x.sum) c.outer.invariant.1))))
@@ -143,7 +86,7 @@ meet-best-requires c = (facing_fits _ _ _ _ _ _ _ _ _ _ _ _ _ (of c.args.best) c
 pub returns-after-outer : goal.returns-after-outer
 returns-after-outer c =
     record {
-      turned = λ t y a. done_empty _ _ _ _ _ _ _ _ _ _ _ _ _ (of c.args.best) t _ _ (c.outer.invariant.2 t) c.outer-test.false y ∙ (λ j. record { half = half c.args.n c.args.base (sym c.outer.invariant.0 j) c.outer.heap c.outer.len; best = of (sym c.outer.invariant.1 j) });
+      turned = λ t y a. done_empty _ _ _ _ _ _ _ _ _ _ _ _ _ (of c.args.best) t _ _ (c.outer.invariant.2 t) c.outer-test.false y ∙ (λ j. record { half = half c.args.t.now.num_nodes c.args.base (sym c.outer.invariant.0 j) c.outer.heap c.outer.len; best = of (sym c.outer.invariant.1 j) });
       ordered = (c.outer.invariant.2 c.requires).ordered;
       held = (c.outer.invariant.2 c.requires).held;
       stamps = rw c.outer.invariant.0 (λ n before. before);
@@ -155,7 +98,7 @@ returns-then-best-weight c =
     record {
       turned = λ t y a.
           done_heavy _ _ _ _ _ _ _ _ _ _ _ _ _ (of c.args.best) (t) _ _ (c.outer.invariant.2 (t)) c.outer-test.true _ _ c.pop-top.ensures (ap (λ (l : List ℕ). ltb c.args.base (stamp l c.pop-top.result.node)) (sym c.outer.invariant.0) ∙ sym c.is_settled.ensures ∙ c.if-is_settled.false) (lt-ltb c.args.best.sum c.pop-top.result.weight (omega (arith, c.if-best-weight.true, ap (λ (x : Held). x.sum) c.outer.invariant.1))) y
-          ∙ (λ j. record { half = half c.args.n c.args.base (sym c.outer.invariant.0 j) c.pop-top.new.heap (c.outer.len - 1); best = of (sym c.outer.invariant.1 j) });
+          ∙ (λ j. record { half = half c.args.t.now.num_nodes c.args.base (sym c.outer.invariant.0 j) c.pop-top.new.heap (c.outer.len - 1); best = of (sym c.outer.invariant.1 j) });
       ordered = p.ordered;
       held = omega (arith, p.long, (c.outer.invariant.2 c.requires).held);
       stamps = rw c.outer.invariant.0 (λ n before. before);
@@ -168,9 +111,9 @@ returns-after-loop-e c =
     record {
       turned = λ t y a.
           done_settles _ _ _ _ _ _ _ _ _ _ _ _ _ (of c.args.best) (t) _ _ (c.outer.invariant.2 (t)) c.outer-test.true _ _ c.pop-top.ensures (ap (λ (l : List ℕ). ltb c.args.base (stamp l c.pop-top.result.node)) (sym c.outer.invariant.0) ∙ sym c.is_settled.ensures ∙ c.if-is_settled.false) (le-ltb c.args.best.sum c.pop-top.result.weight (omega (arith, c.if-best-weight.false, ap (λ (x : Held). x.sum) c.outer.invariant.1)))
-          (ap (λ (l : List ℕ). lower_by l c.args.base c.args.other_neighbours.now c.args.other_weights.now c.pop-top.result.weight (range (get_or c.args.other_starts.now (get_or c.args.ranks.now c.pop-top.result.node 0) 0) (get_or c.args.other_starts.now ((get_or c.args.ranks.now c.pop-top.result.node 0) + 1) 0))) (sym c.outer.invariant.0) ∙ sym c.loop-e.invariant.1 ∙ none_left _ _ _ _ _ _ _ c.loop-e-test.false)
+          (ap (λ (l : List ℕ). lower_by l c.args.base c.args.t.now.other.neighbours.now c.args.t.now.other.weights.now c.pop-top.result.weight (range (get_or c.args.t.now.other.starts.now (get_or c.args.t.now.ranks.now c.pop-top.result.node 0) 0) (get_or c.args.t.now.other.starts.now ((get_or c.args.t.now.ranks.now c.pop-top.result.node 0) + 1) 0))) (sym c.outer.invariant.0) ∙ sym c.loop-e.invariant ∙ none_left _ _ _ _ _ _ _ (omega arith))
           c.outer.invariant.0 _ _ _ c.settle-len.ensures y a
-          ∙ (λ j. record { half = half c.args.n c.args.base c.settle-len.new.labels c.settle-len.new.heap c.settle-len.result; best = met j });
+          ∙ (λ j. record { half = half c.args.t.now.num_nodes c.args.base c.settle-len.new.labels c.settle-len.new.heap c.settle-len.result; best = met j });
       ordered = c.settle-len.ensures.ordered;
       held = omega (arith, c.settle-len.ensures.most, room, c.settle-len.auto.heap);
       stamps = settled_stamps c.outer.invariant.0 c.settle-len.ensures;

@@ -10,16 +10,12 @@ use Rattle.turns.proofs.turn.Given as goal
 
 abbrev pub invariant-loop-e : goal.invariant-loop-e
 invariant-loop-e l =
-    (l.initial.e ≤ l.e) ×
-    (lower_by l.labels l.base l.other_neighbours l.other_weights l.weight (range l.e l.end) ≡ lower_by l.labels l.base l.other_neighbours l.other_weights l.weight (range l.initial.e l.end))
+    (lower_by l.labels l.base l.t.other.neighbours.now l.t.other.weights.now l.weight (range l.e l.e-end) ≡ lower_by l.labels l.base l.t.other.neighbours.now l.t.other.weights.now l.weight (range l.initial.e l.e-end))
 
 abbrev pub invariant-outer : goal.invariant-outer
 invariant-outer l =
     (l.labels ≡ l.initial.labels) × (l.best ≡ l.initial.best) ×
-    ((t : Turning l.n l.ranks l.starts l.neighbours l.weights l.other_starts l.other_neighbours l.other_weights l.initial.labels l.initial.heap l.facing l.base l.len-2 l.initial.best.sum) → Going l.n l.ranks l.starts l.neighbours l.weights l.other_starts l.other_neighbours l.other_weights l.initial.labels l.initial.heap l.facing l.base l.len-2 (of l.initial.best) t l.heap l.len)
-
-abbrev pub decreases-loop-e : goal.decreases-loop-e
-decreases-loop-e l = l.end - l.e
+    ((t : Turning l.t.num_nodes l.t.ranks.now l.t.own.starts.now l.t.own.neighbours.now l.t.own.weights.now l.t.other.starts.now l.t.other.neighbours.now l.t.other.weights.now l.initial.labels l.initial.heap l.facing l.base l.len-2 l.initial.best.sum) → Going l.t.num_nodes l.t.ranks.now l.t.own.starts.now l.t.own.neighbours.now l.t.own.weights.now l.t.other.starts.now l.t.other.neighbours.now l.t.other.weights.now l.initial.labels l.initial.heap l.facing l.base l.len-2 (of l.initial.best) t l.heap l.len)
 
 abbrev pub decreases-outer : goal.decreases-outer
 decreases-outer l = l.len
