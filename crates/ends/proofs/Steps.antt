@@ -70,7 +70,7 @@ module _ (s o t q : ℕ) (b : Best) where
   unfolding coincide counts
   both_count e c d = rw (eq-eqb s t e, lt-ltb o no_weight c, lt-ltb q no_weight d, coincide)
 
-module _ (nodes offsets : List ℕ) (g : AllSmall nodes offsets) (k : ℕ) where
+module _ (nodes offsets : List ℕ) (g : AllSmall (given nodes offsets)) (k : ℕ) where
   module _ (s : End) (b₀ b : Best) (so_far : coincide_all s (drop k (zip_ends nodes offsets)) b ≡ coincide_all s (zip_ends nodes offsets) b₀) where
     pub next_target : k < length nodes → (b' : Best) → b' ≡ coincide s (end (get_or nodes k 0) (get_or offsets k 0)) b →
         coincide_all s (drop (k + 1) (zip_ends nodes offsets)) b' ≡ coincide_all s (zip_ends nodes offsets) b₀

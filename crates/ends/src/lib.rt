@@ -1,39 +1,45 @@
 // Sources and targets of a query: whether they can be taken, and the first step, over equal nodes of both.
 #![tactic(auto)]
 
-ghost use Rattle.std.specs.Prelude.{◌≡◌, ◌≤◌, ltb, length};
+ghost use Rattle.std.specs.Prelude.{◌≡◌, ◌<◌, ◌≤◌, ltb, length, get_or};
 ghost use Rattle.rules.specs.Lists.{all};
 ghost use Rattle.rules.specs.Refusals.{ends_fit, offset_fits};
-ghost use Rattle.rules.specs.Query.{zip_ends, coincide, coincide_all, first_step};
+ghost use Rattle.rules.specs.Query.{coincide, coincide_all, first_step};
 ghost use Rattle.turns.specs.Turning.{of, best};
-ghost use Rattle.ends.specs.Given.{end, given, Small, AllSmall, none};
+ghost use Rattle.ends.specs.Given.{end, end_of, ends_of, list_of, Small, AllSmall, none};
 
+use halves::Ends;
 use rules::WEIGHT_MAX;
 use turns::Best;
 
+// One of them.
+#[derive(Clone, Copy)]
+struct End {
+    node: u32,
+    offset: u64,
+}
+
 // None, more than 16, or columns that differ.
-pub fn ends_fit(nodes: &[u32], offsets: &[u64]) -> bool
-    ensures { result ≡ ends_fit (given nodes.now offsets.now) }
+pub fn ends_fit(ends: &Ends<'_>) -> bool
+    ensures { result ≡ ends_fit (ends_of ends.now) }
 {
-    let count = nodes.len();
+    let count = ends.nodes.len();
     if count == 0 {
         return false;
     }
     if rules::MAX_ENDS < count {
         return false;
     }
-    offsets.len() == count
+    ends.offsets.len() == count
 }
 
 pub fn all_below(n: usize, nodes: &[u32]) -> bool
     ensures { result ≡ all (λ v. ltb v n) nodes.now }
 {
-    let mut k = 0;
-    while k < nodes.len() {
-        if n <= nodes[k] as usize {
+    for v in nodes {
+        if n <= *v as usize {
             return false;
         }
-        k += 1;
     }
     true
 }
@@ -52,65 +58,64 @@ fn offset_fits(offset: u64) -> bool
 pub fn offsets_fit(offsets: &[u64]) -> bool
     ensures { result ≡ all offset_fits offsets.now }
 {
-    let mut k = 0;
-    while k < offsets.len() {
-        if !offset_fits(offsets[k]) {
+    for offset in offsets {
+        if !offset_fits(*offset) {
             return false;
         }
-        k += 1;
     }
     true
 }
 
-// Equal nodes that count may set the best sum.
-fn coincide(source: u32, offset: u64, target: u32, target_offset: u64, best: Best) -> Best
-    requires { Small offset × Small target_offset }
-    ensures { of result ≡ coincide (end source offset) (end target target_offset) (of best) }
+fn end_at(ends: &Ends<'_>, k: usize) -> End
+    requires { AllSmall (ends_of ends.now) × (k < length ends.now.nodes.now) }
+    ensures { end_of result ≡ end (get_or ends.now.nodes.now k 0) (get_or ends.now.offsets.now k 0) }
 {
-    if source != target {
+    End {
+        node: ends.nodes[k],
+        offset: ends.offsets[k],
+    }
+}
+
+// Equal nodes that count may set the best sum.
+fn coincide(source: End, target: End, best: Best) -> Best
+    requires { Small source.offset × Small target.offset }
+    ensures { of result ≡ coincide (end_of source) (end_of target) (of best) }
+{
+    if source.node != target.node {
         return best;
     }
-    if offset == WEIGHT_MAX {
+    if source.offset == WEIGHT_MAX {
         return best;
     }
-    if target_offset == WEIGHT_MAX {
+    if target.offset == WEIGHT_MAX {
         return best;
     }
-    best.improve(offset + target_offset, target)
+    best.improve(source.offset + target.offset, target.node)
 }
 
 // A source beside each target.
-fn coincide_all(source: u32, offset: u64, nodes: &[u32], offsets: &[u64], best: Best) -> Best
-    requires { Small offset × AllSmall nodes.now offsets.now }
-    ensures { of result ≡ coincide_all (end source offset) (zip_ends nodes.now offsets.now) (of best) }
+fn coincide_all(source: End, targets: &Ends<'_>, best: Best) -> Best
+    requires { Small source.offset × AllSmall (ends_of targets.now) }
+    ensures { of result ≡ coincide_all (end_of source) (list_of targets.now) (of best) }
 {
     let mut best = best;
-    let mut k = 0;
-    while k < nodes.len() {
-        best = coincide(source, offset, nodes[k], offsets[k], best);
-        k += 1;
+    for k in 0..targets.nodes.len() {
+        best = coincide(source, end_at(targets, k), best);
     }
     best
 }
 
 // Each source beside each target.
-pub fn first_step(
-    sources: &[u32],
-    source_offsets: &[u64],
-    targets: &[u32],
-    target_offsets: &[u64],
-) -> Best
-    requires { AllSmall sources.now source_offsets.now × AllSmall targets.now target_offsets.now }
-    ensures { of result ≡ first_step (zip_ends sources.now source_offsets.now) (zip_ends targets.now target_offsets.now) none }
+pub fn first_step(sources: &Ends<'_>, targets: &Ends<'_>) -> Best
+    requires { AllSmall (ends_of sources.now) × AllSmall (ends_of targets.now) }
+    ensures { of result ≡ first_step (list_of sources.now) (list_of targets.now) none }
 {
     let mut best = Best {
         sum: WEIGHT_MAX,
         node: rules::INVALID,
     };
-    let mut k = 0;
-    while k < sources.len() {
-        best = coincide_all(sources[k], source_offsets[k], targets, target_offsets, best);
-        k += 1;
+    for k in 0..sources.nodes.len() {
+        best = coincide_all(end_at(sources, k), targets, best);
     }
     best
 }

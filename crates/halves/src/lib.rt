@@ -12,6 +12,13 @@ ghost use Rattle.halves.specs.Promises.{Offering, Offers, Relaxing, Relaxes, Ent
 
 use rules::{INVALID, WEIGHT_MAX};
 
+// Sources, or targets, as they are lent: nodes, and an offset of each.
+#[derive(Clone, Copy)]
+pub struct Ends<'a> {
+    pub nodes: &'a [u32],
+    pub offsets: &'a [u64],
+}
+
 #[derive(Clone, Copy)]
 pub struct Label {
     pub weight: u64,
@@ -151,24 +158,23 @@ pub fn relax(
 
 // Sources, or targets, enter an empty heap: each is its own parent.
 pub fn enter(
-    nodes: &[u32],
-    offsets: &[u64],
+    ends: &Ends<'_>,
     labels: &mut [u64],
     heap: &mut [u64],
     base: u64,
 ) -> usize
-    requires { Entering nodes.now offsets.now labels.old heap.old }
-    ensures { Enters nodes.now offsets.now labels.old heap.old labels.new heap.new base result }
+    requires { Entering ends.now.nodes.now ends.now.offsets.now labels.old heap.old }
+    ensures { Enters ends.now.nodes.now ends.now.offsets.now labels.old heap.old labels.new heap.new base result }
 {
     let mut len = 0;
-    for (k, node) in nodes.iter().enumerate() {
+    for (k, node) in ends.nodes.iter().enumerate() {
         len = offer(
             labels,
             heap,
             base,
             len,
             *node as usize,
-            offsets[k],
+            ends.offsets[k],
             *node as u64,
             INVALID as u64,
         );

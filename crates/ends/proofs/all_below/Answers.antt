@@ -5,17 +5,11 @@ use borrow.Author.Tests.{lt-ltb, le-ltb}
 use Rattle.ends.proofs.Steps.{fails_here, holds_here, all_hold}
 use Rattle.ends.proofs.all_below.Goals as goal
 
-pub loop-k-init : goal.loop-k-init
-loop-k-init c = refl
+pub returns-then-n-v : goal.returns-then-n-v
+returns-then-n-v c = fails_here _ _ _ c.loop-v.invariant (omega arith) (le-ltb _ _ c.if-n-v.true)
 
-pub overflow_cast-nodes : goal.overflow_cast-nodes
-overflow_cast-nodes c = omega (arith, c.type_inv.nodes c.loop-k.k)
-
-pub returns-then-n-nodes : goal.returns-then-n-nodes
-returns-then-n-nodes c = fails_here _ _ _ c.loop-k.invariant c.loop-k-test.true (le-ltb _ _ c.if-n-nodes.true)
-
-pub loop-k-preserved : goal.loop-k-preserved
-loop-k-preserved c = holds_here _ _ _ c.loop-k.invariant c.loop-k-test.true (lt-ltb _ _ c.if-n-nodes.false)
+pub loop-v-preserved : goal.loop-v-preserved
+loop-v-preserved c = holds_here _ _ _ c.loop-v.invariant (omega arith) (lt-ltb _ _ c.if-n-v.false)
 
 pub returns : goal.returns
-returns c = all_hold _ _ _ c.loop-k.invariant c.loop-k-test.false
+returns c = all_hold _ _ c.loop-v.v-index c.loop-v.invariant (omega arith)

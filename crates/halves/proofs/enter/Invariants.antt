@@ -5,4 +5,4 @@ use Rattle.halves.proofs.enter.Given as goal
 
 abbrev pub invariant-loop-k : goal.invariant-loop-k
 invariant-loop-k l =
-    (given : Entering l.nodes l.offsets l.initial.labels l.initial.heap) × Going l.nodes l.offsets l.initial.labels l.initial.heap l.base given l.labels l.heap l.len l.k
+    (given : Entering l.ends.nodes.now l.ends.offsets.now l.initial.labels l.initial.heap) × Going l.ends.nodes.now l.ends.offsets.now l.initial.labels l.initial.heap l.base given l.labels l.heap l.len l.k
