@@ -1,25 +1,20 @@
 // The walk through a meeting node: up the labels of either side, each entry opened on the way.
-//
-// Columns as in unpacking: f of the forward table, b of the backward one; b bases, m neighbours, i and o the two numbers.
 #![tactic(auto)]
 
 ghost use Rattle.std.specs.Prelude.{[], ◌∷◌};
 ghost use Rattle.rules.specs.Columns.{forward, backward};
-ghost use Rattle.unpacking.specs.Written.{shown, Put};
+ghost use Rattle.tables.specs.Lent.{hierarchy_of};
+ghost use Rattle.unpacking.specs.Written.{Put};
 ghost use Rattle.paths.specs.Climbs.{Climbing, Climbed, Extracting, Extracted};
 
 use halves::load;
 use rules::INVALID;
+use tables::FastGraph;
 use unpacking::{unpack_bwd, unpack_fwd};
 
 // The forward half: the chain of parents of v, its end first.
 fn climb_fwd(
-    fb: &[u32],
-    fi: &[u32],
-    fo: &[u32],
-    bm: &[u32],
-    bi: &[u32],
-    bo: &[u32],
+    g: &FastGraph<'_>,
     labels: &[u64],
     base: u64,
     v: usize,
@@ -27,8 +22,8 @@ fn climb_fwd(
     at: usize,
     limit: usize,
 ) -> usize
-    requires { Climbing (shown fb.now fi.now fo.now bm.now bi.now bo.now) forward labels.now base v «at» limit }
-    ensures { Climbed (shown fb.now fi.now fo.now bm.now bi.now bo.now) forward labels.now base v «at» limit result path.old path.new }
+    requires { Climbing (hierarchy_of g.now) forward labels.now base v «at» limit }
+    ensures { Climbed (hierarchy_of g.now) forward labels.now base v «at» limit result path.old path.new }
 {
     let own = load(labels, base, v);
     let via = own.via;
@@ -36,32 +31,8 @@ fn climb_fwd(
     if via == INVALID as u64 {
         return 0;
     }
-    let first = climb_fwd(
-        fb,
-        fi,
-        fo,
-        bm,
-        bi,
-        bo,
-        labels,
-        base,
-        parent as usize,
-        path,
-        at,
-        limit,
-    );
-    let then = unpack_fwd(
-        fb,
-        fi,
-        fo,
-        bm,
-        bi,
-        bo,
-        via as u32,
-        path,
-        at + first,
-        limit - first,
-    );
+    let first = climb_fwd(g, labels, base, parent as usize, path, at, limit);
+    let then = unpack_fwd(g, via as u32, path, at + first, limit - first);
     first + then
 }
 
@@ -80,12 +51,7 @@ fn put_node(path: &mut [u32], at: usize, limit: usize, node: u32) -> usize
 
 // The backward half, its end last, which is a node of the walk.
 fn climb_bwd(
-    fb: &[u32],
-    fi: &[u32],
-    fo: &[u32],
-    bm: &[u32],
-    bi: &[u32],
-    bo: &[u32],
+    g: &FastGraph<'_>,
     labels: &[u64],
     base: u64,
     v: usize,
@@ -93,8 +59,8 @@ fn climb_bwd(
     at: usize,
     limit: usize,
 ) -> usize
-    requires { Climbing (shown fb.now fi.now fo.now bm.now bi.now bo.now) backward labels.now base v «at» limit }
-    ensures { Climbed (shown fb.now fi.now fo.now bm.now bi.now bo.now) backward labels.now base v «at» limit result path.old path.new }
+    requires { Climbing (hierarchy_of g.now) backward labels.now base v «at» limit }
+    ensures { Climbed (hierarchy_of g.now) backward labels.now base v «at» limit result path.old path.new }
 {
     let own = load(labels, base, v);
     let via = own.via;
@@ -102,14 +68,9 @@ fn climb_bwd(
     if via == INVALID as u64 {
         return put_node(path, at, limit, v as u32);
     }
-    let first = unpack_bwd(fb, fi, fo, bm, bi, bo, via as u32, path, at, limit);
+    let first = unpack_bwd(g, via as u32, path, at, limit);
     let then = climb_bwd(
-        fb,
-        fi,
-        fo,
-        bm,
-        bi,
-        bo,
+        g,
         labels,
         base,
         parent as usize,
@@ -122,12 +83,7 @@ fn climb_bwd(
 
 // Both halves, as far as the limit.
 pub fn extract_nodes(
-    fb: &[u32],
-    fi: &[u32],
-    fo: &[u32],
-    bm: &[u32],
-    bi: &[u32],
-    bo: &[u32],
+    g: &FastGraph<'_>,
     fl: &[u64],
     bl: &[u64],
     base: u64,
@@ -135,23 +91,10 @@ pub fn extract_nodes(
     path: &mut [u32],
     limit: usize,
 ) -> usize
-    requires { Extracting (shown fb.now fi.now fo.now bm.now bi.now bo.now) fl.now bl.now base v limit }
-    ensures { Extracted (shown fb.now fi.now fo.now bm.now bi.now bo.now) fl.now bl.now base v limit result path.old path.new }
+    requires { Extracting (hierarchy_of g.now) fl.now bl.now base v limit }
+    ensures { Extracted (hierarchy_of g.now) fl.now bl.now base v limit result path.old path.new }
 {
-    let first = climb_fwd(fb, fi, fo, bm, bi, bo, fl, base, v, path, 0, limit);
-    let then = climb_bwd(
-        fb,
-        fi,
-        fo,
-        bm,
-        bi,
-        bo,
-        bl,
-        base,
-        v,
-        path,
-        first,
-        limit - first,
-    );
+    let first = climb_fwd(g, fl, base, v, path, 0, limit);
+    let then = climb_bwd(g, bl, base, v, path, first, limit - first);
     first + then
 }

@@ -7,7 +7,7 @@ use Rattle.paths.proofs.extract_nodes.Goals as goal
 pub climb_fwd-first-requires : goal.climb_fwd-first-requires
 climb_fwd-first-requires c =
     let p = c.requires in
-    record { n = p.n; h = p.h; ascent = p.fwd; room = p.fwd_room; fits = omega (arith, p.fits) }
+    record { n = p.n; ascent = p.fwd; room = p.fwd_room; fits = omega (arith, p.fits) }
 
 pub overflow_sub-limit : goal.overflow_sub-limit
 overflow_sub-limit c = first_within (c.climb_fwd-first.ensures.put c.requires.fwd)
@@ -15,7 +15,7 @@ overflow_sub-limit c = first_within (c.climb_fwd-first.ensures.put c.requires.fw
 pub climb_bwd-then-requires : goal.climb_bwd-then-requires
 climb_bwd-then-requires c =
     let p = c.requires in
-    record { n = p.n; h = p.h; ascent = p.bwd; room = p.bwd_room; fits = omega (arith, p.fits, first_within (c.climb_fwd-first.ensures.put p.fwd)) }
+    record { n = p.n; ascent = p.bwd; room = p.bwd_room; fits = omega (arith, p.fits, first_within (c.climb_fwd-first.ensures.put p.fwd)) }
 
 pub overflow_add-result : goal.overflow_add-result
 overflow_add-result c =
