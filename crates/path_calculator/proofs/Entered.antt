@@ -35,7 +35,7 @@ module _ (n : ℕ) (nodes offsets : List ℕ) (r : EndsRules n (given nodes offs
       r.each (end (get_or nodes k 0) (get_or offsets k 0))
       (in_drop k (zip_ends nodes offsets) _ (rw (ends_from nodes offsets k r.columns h) (Memᴰ.head refl)))
 
-  pub all_small : AllSmall nodes offsets
+  pub all_small : AllSmall (given nodes offsets)
   all_small = record { even = r.columns; small = λ k h light. counting_fits (each_end k h) light }
 
   pub entering : (labels heap : List ℕ) (u : ℕ) → 4 * n ≤ length labels → 2 * (u + max_ends) ≤ length heap → Entering nodes offsets labels heap

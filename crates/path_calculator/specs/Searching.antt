@@ -6,6 +6,9 @@ use Rattle.rules.specs.TableRules.{used}
 use Rattle.rules.specs.Refusals.{QueryCall}
 use Rattle.rules.specs.Query.{Best, searched}
 use Rattle.query_laws.specs.Accepted.{Accepted}
+use Rattle.tables.specs.declared.FastGraph.{FastGraph}
+use Rattle.tables.specs.Lent.{hierarchy_of}
+use Rattle.halves.specs.declared.Ends.{Ends}
 use Rattle.halves.specs.Labels.{Before}
 use Rattle.rounds.specs.Rounds.{halves}
 use Rattle.ends.specs.Given.{given}
@@ -37,3 +40,13 @@ pub record Searched (n : ℕ) (h : Hierarchy) (sources so targets to fl bl fh bh
   pub is : (s : Searching n h sources so targets to fl bl fh bh base) (path scratch : List ℕ) →
       searched (call n h sources so targets to path scratch) ≡ halves n base fl' bl' fh' bh' 0 0 best
   pub earlier : Earlier n (base + 2) fl' bl'
+
+-- the same of the code's tables and ends
+abbrev pub call_of : FastGraph → Ends → Ends → List ℕ → List ℕ → QueryCall
+call_of g s t = call g.num_nodes (hierarchy_of g) s.nodes.now s.offsets.now t.nodes.now t.offsets.now
+
+abbrev pub SearchingOf : FastGraph → Ends → Ends → List ℕ → List ℕ → List ℕ → List ℕ → ℕ → Type 0
+SearchingOf g s t = Searching g.num_nodes (hierarchy_of g) s.nodes.now s.offsets.now t.nodes.now t.offsets.now
+
+abbrev pub SearchedOf : FastGraph → Ends → Ends → List ℕ → List ℕ → List ℕ → List ℕ → ℕ → List ℕ → List ℕ → List ℕ → List ℕ → Best → Type 0
+SearchedOf g s t = Searched g.num_nodes (hierarchy_of g) s.nodes.now s.offsets.now t.nodes.now t.offsets.now

@@ -19,34 +19,13 @@ enter-b-requires c =
     let s = c.requires in
     entering _ _ _ s.accepted.targets _ _ _ s.bwd_labels s.bwd_heap
 
-pub overflow_add-fuel : goal.overflow_add-fuel
-overflow_add-fuel c = let s = c.requires in omega (arith, s.accepted.sources.few, s.accepted.targets.few)
-
-pub offset_bounds-fs-n : goal.offset_bounds-fs-n
-offset_bounds-fs-n c = omega (arith, c.requires.accepted.rules.nodes)
-
-pub bounds-fs-n : goal.bounds-fs-n
+pub bounds-g-n : goal.bounds-g-n
 unfolding table
-bounds-fs-n c = (c.requires.accepted.rules.side_rules forward).places_for_starts
+bounds-g-n c = (c.requires.accepted.rules.side_rules forward).places_for_starts
 
-pub overflow_cast-fuel : goal.overflow_cast-fuel
-overflow_cast-fuel c = omega (arith, c.type_inv.fs c.args.n)
-
-pub overflow_add-fuel-2 : goal.overflow_add-fuel-2
-overflow_add-fuel-2 c = omega (arith, c.requires.accepted.sources.few, c.requires.accepted.targets.few, c.type_inv.fs c.args.n)
-
-pub offset_bounds-bs-n : goal.offset_bounds-bs-n
-offset_bounds-bs-n c = omega (arith, c.requires.accepted.rules.nodes)
-
-pub bounds-bs-n : goal.bounds-bs-n
+pub bounds-g-n-2 : goal.bounds-g-n-2
 unfolding table
-bounds-bs-n c = (c.requires.accepted.rules.side_rules backward).places_for_starts
-
-pub overflow_cast-fuel-2 : goal.overflow_cast-fuel-2
-overflow_cast-fuel-2 c = omega (arith, c.type_inv.bs c.args.n)
-
-pub overflow_add-fuel-3 : goal.overflow_add-fuel-3
-overflow_add-fuel-3 c = omega (arith, c.requires.accepted.sources.few, c.requires.accepted.targets.few, c.type_inv.bs c.args.n, c.type_inv.fs c.args.n)
+bounds-g-n-2 c = (c.requires.accepted.rules.side_rules backward).places_for_starts
 
 pub rounds-requires : goal.rounds-requires
 rounds-requires c =
