@@ -1,6 +1,6 @@
 -- What the search of a query asks and leaves.
 use Rattle.std.specs.Prelude.{List, ◌≡◌, ℕ, ◌+◌, ◌*◌, ◌^◌, ◌<◌, ◌≤◌, length}
-use Rattle.rules.specs.Numbers.{max_ends}
+use Rattle.rules.specs.Numbers.{max_ends, invalid}
 use Rattle.rules.specs.Columns.{Hierarchy, forward, backward, table}
 use Rattle.rules.specs.TableRules.{used}
 use Rattle.rules.specs.Refusals.{QueryCall}
@@ -35,11 +35,14 @@ pub record Searching (n : ℕ) (h : Hierarchy) (sources so targets to fl bl fh b
   pub earlier : Earlier n base fl bl
   pub stamps : base + 1 < 2 ^ 64
 
--- the definition's search; the base after the next is then one of which no stamp is
+-- the definition's search; the base after the next is then one of which no stamp is. The last starts are numbers of their columns, so
+-- that no entry has the mark as its number.
 pub record Searched (n : ℕ) (h : Hierarchy) (sources so targets to fl bl fh bh : List ℕ) (base : ℕ) (fl' bl' fh' bh' : List ℕ) (best : Best) : Type 0 where
   pub is : (s : Searching n h sources so targets to fl bl fh bh base) (path scratch : List ℕ) →
       searched (call n h sources so targets to path scratch) ≡ halves n base fl' bl' fh' bh' 0 0 best
   pub earlier : Earlier n (base + 2) fl' bl'
+  pub few_fwd : used n h.forward ≤ invalid
+  pub few_bwd : used n h.backward ≤ invalid
 
 -- the same of the code's tables and ends
 abbrev pub call_of : FastGraph → Ends → Ends → List ℕ → List ℕ → QueryCall

@@ -28,9 +28,11 @@ pub fn search(
     let f = halves::enter(sources, fl, fh, base);
     let b = halves::enter(targets, bl, bh, base);
     let n = g.num_nodes;
+    let fwd_entries = g.fwd.starts[n];
+    let bwd_entries = g.bwd.starts[n];
     let fuel = sources.nodes.len()
         + targets.nodes.len()
-        + g.fwd.starts[n] as usize
-        + g.bwd.starts[n] as usize;
+        + fwd_entries as usize
+        + bwd_entries as usize;
     rounds::rounds(g, fl, bl, fh, bh, base, f, b, best, fuel)
 }

@@ -92,12 +92,12 @@ module _ (n : ℕ) (h : Hierarchy) (sources so targets to path : List ℕ) (fl b
   abbrev c : QueryCall
   c = call n h sources so targets to path (fl ∷ bl ∷ fh ∷ bh ∷ [])
 
-  pub tables_broken : (r : ℕ) → r ≡ check_refusal n h → (r ≡ 0 → ⊥) → 20 ≡ query_refusal c
+  pub tables_broken : (r : ℕ) → r ≡ check_refusal n h → (r ≡ 0 → ⊥) → r ≡ query_refusal c
   unfolding check_refusal query_refusal check_rows first_met
   tables_broken r is some =
       on_test (table_test n h)
       (λ t. absurd (some (is ∙ rw t)))
-      (λ f. rw f)
+      (λ f. is ∙ rw f)
 
   module _ (r : ℕ) (is : r ≡ check_refusal n h) (none : r ≡ 0) where
     passes : table_test n h ≡ true

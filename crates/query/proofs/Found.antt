@@ -22,8 +22,7 @@ use Rattle.halves.specs.Labels.{Before}
 use Rattle.rounds.specs.Rounds.{halves}
 use Rattle.path_calculator.specs.Searching.{call, Searching, Searched}
 use Rattle.paths.specs.Climbs.{half_walk, Labelled}
-use Rattle.query.specs.declared.Answer.{Answer}
-use Rattle.query.specs.Answers.{answer, Tells, found, Handing, HandedBack, Routing, Routed}
+use Rattle.query.specs.Answers.{Answer, answer, Tells, found, Handing, HandedBack, Routing, Routed}
 use Rattle.query.proofs.Handing.{tells_none, tells_found}
 
 -- no number of an entry is the mark, on either side
@@ -118,12 +117,12 @@ module _ (n : ℕ) (h : Hierarchy) (sources so targets to path fl bl fh bh : Lis
         below : best.node < n
         below = elim both.meets.real [ inl none ↦ absurd (some (ap (λ b. b.node) none)) | inr met ↦ met.node_below ]
 
-        pub handing : used n h.forward ≤ invalid → used n h.backward ≤ invalid → length fl' ≡ length fl → length bl' ≡ length bl →
+        pub handing : length fl' ≡ length fl → length bl' ≡ length bl →
             Handing n h fl' bl' base best.node
-        handing few_fwd few_bwd f b =
+        handing f b =
             record {
               rules = a.rules;
-              few = either_few n h few_fwd few_bwd;
+              few = either_few n h s.few_fwd s.few_bwd;
               below = below;
               fwd_room = omega (arith, searching.fwd_labels, f);
               bwd_room = omega (arith, searching.bwd_labels, b);

@@ -12,10 +12,9 @@ use Rattle.rules.specs.Refusals.{QueryCall, query_refusal}
 use Rattle.rules.specs.Query.{Answered, no_route, handed_back, query}
 use Rattle.rules.proofs.Prefixes.{written_nowhere, written_over}
 use Rattle.query_laws.proofs.Answers.{accepted_query, refused_query, handed_fits, handed_long}
-use Rattle.unpacking.specs.Written.{shown, tails, Shown, Put}
+use Rattle.unpacking.specs.Written.{Put}
 use Rattle.paths.specs.Climbs.{Labelled, Ascent, Extracting}
-use Rattle.query.specs.declared.Answer.{Answer}
-use Rattle.query.specs.Answers.{answer, told, Tells, Hands, found, Handing}
+use Rattle.query.specs.Answers.{Answer, answer, told, Tells, Hands, found, Handing}
 
 front : (path w : List ℕ) → take (length w) (over path w) ≡ w
 unfolding over
@@ -71,34 +70,11 @@ module _ (c : QueryCall) (sum : ℕ) (w path : List ℕ) (e : c.path ≡ path) (
         walked : List ℕ → Answered
         walked t = record { number = 0; weight = sum; walk = t; path = over c.path w }
 
--- the columns that unpacking reads
-abbrev pub columns_of : Hierarchy → Hierarchy
-columns_of h =
-    shown h.forward.bases h.forward.in_numbers h.forward.out_numbers h.backward.neighbours h.backward.in_numbers
-    h.backward.out_numbers
-
 -- What the walk is read from, for any limit.
 module _ {n : ℕ} {h : Hierarchy} {fl bl : List ℕ} {base v : ℕ} (p : Handing n h fl bl base v) where
-  pub tables_shown : Shown n h (columns_of h)
-  unfolding tails table
-  tables_shown =
-      record { rules = p.rules; few = p.few; tails_are = same_tails; in_numbers_are = same_in; out_numbers_are = same_out }
-    where
-      same_tails : (s : Side) → tails h s ≡ tails (columns_of h) s
-      same_tails forward = refl
-      same_tails backward = refl
+  abbrev pub ascent : {s : Side} {labels : List ℕ} → Labelled n h s labels base → Ascent n h s labels base v
+  ascent l = record { tables = record { rules = p.rules; few = p.few }; below = p.below; labelled = l }
 
-      same_in : (s : Side) → (table h s).in_numbers ≡ (table (columns_of h) s).in_numbers
-      same_in forward = refl
-      same_in backward = refl
-
-      same_out : (s : Side) → (table h s).out_numbers ≡ (table (columns_of h) s).out_numbers
-      same_out forward = refl
-      same_out backward = refl
-
-  abbrev pub ascent : {s : Side} {labels : List ℕ} → Labelled n h s labels base → Ascent n h (columns_of h) s labels base v
-  ascent l = record { tables = tables_shown; below = p.below; labelled = l }
-
-  pub extracting : (limit : ℕ) → limit < 2 ^ 64 → Extracting (columns_of h) fl bl base v limit
+  pub extracting : (limit : ℕ) → limit < 2 ^ 64 → Extracting h fl bl base v limit
   extracting limit fits =
-      record { n = n; h = h; fwd = ascent p.fwd; bwd = ascent p.bwd; fwd_room = p.fwd_room; bwd_room = p.bwd_room; fits = fits }
+      record { n = n; fwd = ascent p.fwd; bwd = ascent p.bwd; fwd_room = p.fwd_room; bwd_room = p.bwd_room; fits = fits }

@@ -3,8 +3,7 @@ use mathlib.Core.List.{List}
 use mathlib.Core.Path.{◌≡◌, sym, ap, ◌∙◌}
 use Prim.Native.Nat.{ℕ}
 use Rattle.rules.specs.Refusals.{QueryCall}
-use Rattle.query.specs.declared.Answer.{Answer}
-use Rattle.query.specs.Answers.{told}
+use Rattle.query.specs.Answers.{Answer, told}
 use Rattle.query.specs.Outcome.{Outcome, Same}
 
 pub one_outcome : (c : QueryCall) (r s : Answer) (p q : List ℕ) → Outcome c r p → Outcome c s q → Same r s p q

@@ -9,7 +9,12 @@ use Rattle.query_laws.specs.Accepted.{Accepted}
 use Rattle.halves.specs.Labels.{half}
 use Rattle.paths.specs.Climbs.{half_walk, Labelled}
 use Rattle.path_calculator.specs.Searching.{Earlier}
-use Rattle.query.specs.declared.Answer.{Answer}
+
+-- A query's number and weight, and how many places of the path are the walk.
+pub record Answer : Type 0 where
+  pub number : ℕ
+  pub weight : ℕ
+  pub count : ℕ
 
 abbrev pub answer : ℕ → ℕ → ℕ → Answer
 answer number weight count = record { number = number; weight = weight; count = count }

@@ -2,8 +2,7 @@
 use Rattle.std.specs.Prelude.{List, ◌≡◌, ℕ}
 use Rattle.rules.specs.Refusals.{QueryCall}
 use Rattle.rules.specs.Query.{query}
-use Rattle.query.specs.declared.Answer.{Answer}
-use Rattle.query.specs.Answers.{Tells}
+use Rattle.query.specs.Answers.{Answer, Tells}
 
 -- the contract, of an answer and the path at exit
 abbrev pub Outcome : QueryCall → Answer → List ℕ → Type 0

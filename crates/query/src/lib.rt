@@ -1,65 +1,61 @@
 // The query: refusals, the search, and the walk handed back.
 //
-// Columns: f of the forward table, b of the backward one; s starts, b bases, m neighbours, w weights, i and o the two numbers; l labels and
-// h heap of either side.
+// l labels and h heap of either side.
 #![tactic(auto)]
 
 ghost use Rattle.std.specs.Prelude.{[], ◌∷◌, ◌≡◌, ◌<◌, ◌≤◌, length, get_or};
+ghost use Rattle.rules.specs.Refused.{code};
 ghost use Rattle.rules.specs.Refusals.{query_refusal};
 ghost use Rattle.rules.specs.Query.{query};
-ghost use Rattle.tables.specs.Lent.{columns, lent};
-ghost use Rattle.ends.specs.Given.{given};
-ghost use Rattle.path_calculator.specs.Searching.{call};
+ghost use Rattle.tables.specs.Lent.{hierarchy_of};
+ghost use Rattle.ends.specs.Given.{ends_of};
+ghost use Rattle.path_calculator.specs.Searching.{call_of};
 ghost use Rattle.query.specs.Rows.{ends_refusal, room_short};
 ghost use Rattle.query.specs.Answers.{answer, Tells, Hands, Handing, HandedBack, Routing, Routed};
+ghost use Rattle.query.specs.Routes.{answer_of};
 
-use rules::{INVALID, WEIGHT_MAX};
+use halves::Ends;
+use rules::{INVALID, Refusal, WEIGHT_MAX};
+use tables::FastGraph;
 
-// The first of rows 21 to 23 that is met, or 0.
-fn ends_refusal(
-    n: usize,
-    sources: &[u32],
-    source_offsets: &[u64],
-    targets: &[u32],
-    target_offsets: &[u64],
-) -> u32
-    ensures { result ≡ ends_refusal n (given sources.now source_offsets.now) (given targets.now target_offsets.now) }
+// The first of rows 21 to 23 that is met.
+fn check_ends(n: usize, sources: &Ends<'_>, targets: &Ends<'_>) -> Result<(), Refusal>
+    ensures { code result ≡ ends_refusal n (ends_of sources.now) (ends_of targets.now) }
 {
-    if !ends::ends_fit(sources, source_offsets) {
-        return 21;
+    if !ends::ends_fit(sources) {
+        return Err(Refusal::Ends);
     }
-    if !ends::ends_fit(targets, target_offsets) {
-        return 21;
+    if !ends::ends_fit(targets) {
+        return Err(Refusal::Ends);
     }
-    if !ends::all_below(n, sources) {
-        return 22;
+    if !ends::all_below(n, sources.nodes) {
+        return Err(Refusal::EndNode);
     }
-    if !ends::all_below(n, targets) {
-        return 22;
+    if !ends::all_below(n, targets.nodes) {
+        return Err(Refusal::EndNode);
     }
-    if !ends::offsets_fit(source_offsets) {
-        return 23;
+    if !ends::offsets_fit(sources.offsets) {
+        return Err(Refusal::Offset);
     }
-    if !ends::offsets_fit(target_offsets) {
-        return 23;
+    if !ends::offsets_fit(targets.offsets) {
+        return Err(Refusal::Offset);
     }
-    0
+    Ok(())
 }
 
 // Whether a length that is lent is below what row 24 asks.
 pub fn lent_short(
-    n: usize,
-    fs: &[u32],
-    bs: &[u32],
+    g: &FastGraph<'_>,
     path: usize,
     fl: usize,
     bl: usize,
     fh: usize,
     bh: usize,
 ) -> bool
-    requires { (n ≤ 1024) × (n < length fs.now) × (n < length bs.now) }
-    ensures { result ≡ room_short n (get_or fs.now n 0) (get_or bs.now n 0) path fl bl fh bh }
+    requires { (g.now.num_nodes ≤ 1024) × (g.now.num_nodes < length g.now.fwd.starts.now) × (g.now.num_nodes < length g.now.bwd.starts.now) }
+    ensures { result ≡ room_short g.now.num_nodes (get_or g.now.fwd.starts.now g.now.num_nodes 0) (get_or g.now.bwd.starts.now g.now.num_nodes 0) path fl bl fh bh }
 {
+    let n = g.num_nodes;
     if path < n {
         return true;
     }
@@ -69,314 +65,132 @@ pub fn lent_short(
     if bl < 4 * n {
         return true;
     }
-    if fh < 2 * (fs[n] as usize + rules::MAX_ENDS) {
+    if fh < 2 * (g.fwd.starts[n] as usize + rules::MAX_ENDS) {
         return true;
     }
-    bh < 2 * (bs[n] as usize + rules::MAX_ENDS)
+    bh < 2 * (g.bwd.starts[n] as usize + rules::MAX_ENDS)
 }
 
-// The number of the first row that is met, or 0. Of scratch only the lengths matter.
+// The first row that is met. Of scratch only the lengths matter.
 pub fn refusal(
-    n: usize,
-    ranks: &[u32],
-    fs: &[u32],
-    fb: &[u32],
-    fm: &[u32],
-    fw: &[u64],
-    fi: &[u32],
-    fo: &[u32],
-    bs: &[u32],
-    bb: &[u32],
-    bm: &[u32],
-    bw: &[u64],
-    bi: &[u32],
-    bo: &[u32],
-    sources: &[u32],
-    source_offsets: &[u64],
-    targets: &[u32],
-    target_offsets: &[u64],
+    g: &FastGraph<'_>,
+    sources: &Ends<'_>,
+    targets: &Ends<'_>,
     path: &[u32],
     fl: usize,
     bl: usize,
     fh: usize,
     bh: usize,
-) -> u32
-    ensures { result ≡ query_refusal (call n (lent ranks.now (columns fs.now fb.now fm.now fw.now fi.now fo.now) (columns bs.now bb.now bm.now bw.now bi.now bo.now)) sources.now source_offsets.now targets.now target_offsets.now path.now (fl ∷ bl ∷ fh ∷ bh ∷ [])) }
+) -> Result<(), Refusal>
+    ensures { code result ≡ query_refusal (call_of g.now sources.now targets.now path.now (fl ∷ bl ∷ fh ∷ bh ∷ [])) }
 {
-    if tables::check_tables(n, ranks, fs, fb, fm, fw, fi, fo, bs, bb, bm, bw, bi, bo) != 0 {
-        return 20;
+    tables::check_tables(g)?;
+    check_ends(g.num_nodes, sources, targets)?;
+    if lent_short(g, path.len(), fl, bl, fh, bh) {
+        return Err(Refusal::Room);
     }
-    let bad = ends_refusal(n, sources, source_offsets, targets, target_offsets);
-    if bad != 0 {
-        return bad;
-    }
-    if lent_short(n, fs, bs, path.len(), fl, bl, fh, bh) {
-        return 24;
-    }
-    0
+    Ok(())
 }
 
-// A query's number and weight, and how many places of the path are the walk.
+// A route: its weight, and how many places of the path are the walk.
 #[derive(Clone, Copy)]
-pub struct Answer {
-    pub number: u32,
+pub struct ShortestPath {
     pub weight: u64,
     pub count: usize,
 }
 
 // The walk through v, counted before anything is written: refusal 25 leaves the path alone.
 fn hand_back(
-    n: usize,
-    ranks: &[u32],
-    fs: &[u32],
-    fb: &[u32],
-    fm: &[u32],
-    fw: &[u64],
-    fi: &[u32],
-    fo: &[u32],
-    bs: &[u32],
-    bb: &[u32],
-    bm: &[u32],
-    bw: &[u64],
-    bi: &[u32],
-    bo: &[u32],
+    g: &FastGraph<'_>,
     fl: &[u64],
     bl: &[u64],
     base: u64,
     v: usize,
     sum: u64,
     path: &mut [u32],
-) -> Answer
-    requires { Handing n (lent ranks.now (columns fs.now fb.now fm.now fw.now fi.now fo.now) (columns bs.now bb.now bm.now bw.now bi.now bo.now)) fl.now bl.now base v }
-    ensures { HandedBack n (lent ranks.now (columns fs.now fb.now fm.now fw.now fi.now fo.now) (columns bs.now bb.now bm.now bw.now bi.now bo.now)) fl.now bl.now base v sum result path.old path.new }
+) -> Result<Option<ShortestPath>, Refusal>
+    requires { Handing g.now.num_nodes (hierarchy_of g.now) fl.now bl.now base v }
+    ensures { HandedBack g.now.num_nodes (hierarchy_of g.now) fl.now bl.now base v sum (answer_of result) path.old path.new }
 {
     let room = path.len();
-    let count = paths::extract_nodes(
-        fb,
-        fi,
-        fo,
-        bm,
-        bi,
-        bo,
-        fl,
-        bl,
-        base,
-        v,
-        &mut path[..0],
-        room + 1,
-    );
+    let count = paths::extract_nodes(g, fl, bl, base, v, &mut path[..0], room + 1);
     if room < count {
-        return Answer {
-            number: 25,
-            weight: WEIGHT_MAX,
-            count: 0,
-        };
+        return Err(Refusal::Walk);
     }
-    let written = paths::extract_nodes(fb, fi, fo, bm, bi, bo, fl, bl, base, v, path, count);
-    Answer {
-        number: 0,
+    let written = paths::extract_nodes(g, fl, bl, base, v, path, count);
+    Ok(Some(ShortestPath {
         weight: sum,
         count: written,
-    }
+    }))
 }
 
 // The route of a query that rows 20 to 24 let pass, over labels of earlier queries: no stamp is of this base, or of a later one.
 pub fn route(
-    n: usize,
-    ranks: &[u32],
-    fs: &[u32],
-    fb: &[u32],
-    fm: &[u32],
-    fw: &[u64],
-    fi: &[u32],
-    fo: &[u32],
-    bs: &[u32],
-    bb: &[u32],
-    bm: &[u32],
-    bw: &[u64],
-    bi: &[u32],
-    bo: &[u32],
-    sources: &[u32],
-    source_offsets: &[u64],
-    targets: &[u32],
-    target_offsets: &[u64],
+    g: &FastGraph<'_>,
+    sources: &Ends<'_>,
+    targets: &Ends<'_>,
     path: &mut [u32],
     fl: &mut [u64],
     bl: &mut [u64],
     fh: &mut [u64],
     bh: &mut [u64],
     base: u64,
-) -> Answer
-    requires { Routing (call n (lent ranks.now (columns fs.now fb.now fm.now fw.now fi.now fo.now) (columns bs.now bb.now bm.now bw.now bi.now bo.now)) sources.now source_offsets.now targets.now target_offsets.now path.old (length fl.old ∷ length bl.old ∷ length fh.old ∷ length bh.old ∷ [])) fl.old bl.old base }
-    ensures { Routed (call n (lent ranks.now (columns fs.now fb.now fm.now fw.now fi.now fo.now) (columns bs.now bb.now bm.now bw.now bi.now bo.now)) sources.now source_offsets.now targets.now target_offsets.now path.old (length fl.old ∷ length bl.old ∷ length fh.old ∷ length bh.old ∷ [])) result path.new fl.new bl.new base }
+) -> Result<Option<ShortestPath>, Refusal>
+    requires { Routing (call_of g.now sources.now targets.now path.old (length fl.old ∷ length bl.old ∷ length fh.old ∷ length bh.old ∷ [])) fl.old bl.old base }
+    ensures { Routed (call_of g.now sources.now targets.now path.old (length fl.old ∷ length bl.old ∷ length fh.old ∷ length bh.old ∷ [])) (answer_of result) path.new fl.new bl.new base }
 {
-    let best = path_calculator::search(
-        n,
-        ranks,
-        fs,
-        fb,
-        fm,
-        fw,
-        fi,
-        fo,
-        bs,
-        bb,
-        bm,
-        bw,
-        bi,
-        bo,
-        sources,
-        source_offsets,
-        targets,
-        target_offsets,
-        fl,
-        bl,
-        fh,
-        bh,
-        base,
-    );
+    let best = path_calculator::search(g, sources, targets, fl, bl, fh, bh, base);
     if best.node == INVALID {
-        return Answer {
-            number: 0,
-            weight: WEIGHT_MAX,
-            count: 0,
-        };
+        return Ok(None);
     }
-    hand_back(
-        n,
-        ranks,
-        fs,
-        fb,
-        fm,
-        fw,
-        fi,
-        fo,
-        bs,
-        bb,
-        bm,
-        bw,
-        bi,
-        bo,
-        fl,
-        bl,
-        base,
-        best.node as usize,
-        best.sum,
-        path,
-    )
+    hand_back(g, fl, bl, base, best.node as usize, best.sum, path)
 }
 
 // The whole query: the refusals, then the route. Labels are cleared, so that whatever the slices held does not matter; 1 is then a base
-// of which no stamp is.
-fn calc_path(
-    n: usize,
-    ranks: &[u32],
-    fs: &[u32],
-    fb: &[u32],
-    fm: &[u32],
-    fw: &[u64],
-    fi: &[u32],
-    fo: &[u32],
-    bs: &[u32],
-    bb: &[u32],
-    bm: &[u32],
-    bw: &[u64],
-    bi: &[u32],
-    bo: &[u32],
-    sources: &[u32],
-    source_offsets: &[u64],
-    targets: &[u32],
-    target_offsets: &[u64],
+// of which no stamp is. Nothing is asked of the caller.
+pub fn calc_path(
+    g: &FastGraph<'_>,
+    sources: &Ends<'_>,
+    targets: &Ends<'_>,
     path: &mut [u32],
     fl: &mut [u64],
     bl: &mut [u64],
     fh: &mut [u64],
     bh: &mut [u64],
-) -> Answer
-    ensures { Tells (query (call n (lent ranks.now (columns fs.now fb.now fm.now fw.now fi.now fo.now) (columns bs.now bb.now bm.now bw.now bi.now bo.now)) sources.now source_offsets.now targets.now target_offsets.now path.old (length fl.old ∷ length bl.old ∷ length fh.old ∷ length bh.old ∷ []))) result path.new }
+) -> Result<Option<ShortestPath>, Refusal>
+    ensures { Tells (query (call_of g.now sources.now targets.now path.old (length fl.old ∷ length bl.old ∷ length fh.old ∷ length bh.old ∷ []))) (answer_of result) path.new }
 {
-    let number = refusal(
-        n,
-        ranks,
-        fs,
-        fb,
-        fm,
-        fw,
-        fi,
-        fo,
-        bs,
-        bb,
-        bm,
-        bw,
-        bi,
-        bo,
+    refusal(
+        g,
         sources,
-        source_offsets,
         targets,
-        target_offsets,
         path,
         fl.len(),
         bl.len(),
         fh.len(),
         bh.len(),
-    );
-    if number != 0 {
-        return Answer {
-            number,
-            weight: WEIGHT_MAX,
-            count: 0,
-        };
+    )?;
+    halves::clear(g.num_nodes, fl);
+    halves::clear(g.num_nodes, bl);
+    route(g, sources, targets, path, fl, bl, fh, bh, 1)
+}
+
+// The number, the weight and the count of an answer: 0, the mark and 0 where they are not its own.
+pub fn numbers(answer: Result<Option<ShortestPath>, Refusal>) -> (u32, u64, usize)
+    ensures { (result.0 ≡ (answer_of answer).number) × (result.1 ≡ (answer_of answer).weight) × (result.2 ≡ (answer_of answer).count) }
+{
+    match answer {
+        Ok(Some(route)) => (0, route.weight, route.count),
+        Ok(None) => (0, WEIGHT_MAX, 0),
+        Err(refusal) => (refusal.into(), WEIGHT_MAX, 0),
     }
-    halves::clear(n, fl);
-    halves::clear(n, bl);
-    route(
-        n,
-        ranks,
-        fs,
-        fb,
-        fm,
-        fw,
-        fi,
-        fo,
-        bs,
-        bb,
-        bm,
-        bw,
-        bi,
-        bo,
-        sources,
-        source_offsets,
-        targets,
-        target_offsets,
-        path,
-        fl,
-        bl,
-        fh,
-        bh,
-        1,
-    )
 }
 
 // The query, its walk left in the front of the path; returns how many places that is. Nothing is asked of the caller.
 pub fn fill_path(
-    n: usize,
-    ranks: &[u32],
-    fs: &[u32],
-    fb: &[u32],
-    fm: &[u32],
-    fw: &[u64],
-    fi: &[u32],
-    fo: &[u32],
-    bs: &[u32],
-    bb: &[u32],
-    bm: &[u32],
-    bw: &[u64],
-    bi: &[u32],
-    bo: &[u32],
-    sources: &[u32],
-    source_offsets: &[u64],
-    targets: &[u32],
-    target_offsets: &[u64],
+    g: &FastGraph<'_>,
+    sources: &Ends<'_>,
+    targets: &Ends<'_>,
     path: &mut [u32],
     number: &mut u32,
     weight: &mut u64,
@@ -385,59 +199,20 @@ pub fn fill_path(
     fh: &mut [u64],
     bh: &mut [u64],
 ) -> usize
-    ensures { Tells (query (call n (lent ranks.now (columns fs.now fb.now fm.now fw.now fi.now fo.now) (columns bs.now bb.now bm.now bw.now bi.now bo.now)) sources.now source_offsets.now targets.now target_offsets.now path.old (length fl.old ∷ length bl.old ∷ length fh.old ∷ length bh.old ∷ []))) (answer number.new weight.new result) path.new }
+    ensures { Tells (query (call_of g.now sources.now targets.now path.old (length fl.old ∷ length bl.old ∷ length fh.old ∷ length bh.old ∷ []))) (answer number.new weight.new result) path.new }
 {
-    let answer = calc_path(
-        n,
-        ranks,
-        fs,
-        fb,
-        fm,
-        fw,
-        fi,
-        fo,
-        bs,
-        bb,
-        bm,
-        bw,
-        bi,
-        bo,
-        sources,
-        source_offsets,
-        targets,
-        target_offsets,
-        path,
-        fl,
-        bl,
-        fh,
-        bh,
-    );
-    *number = answer.number;
-    *weight = answer.weight;
-    answer.count
+    let (answered, least, count) = numbers(calc_path(g, sources, targets, path, fl, bl, fh, bh));
+    *number = answered;
+    *weight = least;
+    count
 }
 
 // The same in the paper's form: the filled front part of the path, exactly the walk or empty, number and weight in lent numbers.
 // A contract cannot speak of what lies beyond a returned part; `fill_path` says what every place of the path holds.
 pub fn calc_path_multiple_sources_and_targets<'a>(
-    n: usize,
-    ranks: &[u32],
-    fs: &[u32],
-    fb: &[u32],
-    fm: &[u32],
-    fw: &[u64],
-    fi: &[u32],
-    fo: &[u32],
-    bs: &[u32],
-    bb: &[u32],
-    bm: &[u32],
-    bw: &[u64],
-    bi: &[u32],
-    bo: &[u32],
-    sources: &[u32],
-    source_offsets: &[u64],
-    targets: &[u32],
-    target_offsets: &[u64],
+    g: &FastGraph<'_>,
+    sources: &Ends<'_>,
+    targets: &Ends<'_>,
     path: &'a mut [u32],
     number: &mut u32,
     weight: &mut u64,
@@ -446,34 +221,8 @@ pub fn calc_path_multiple_sources_and_targets<'a>(
     fh: &mut [u64],
     bh: &mut [u64],
 ) -> &'a mut [u32]
-    ensures { Hands (query (call n (lent ranks.now (columns fs.now fb.now fm.now fw.now fi.now fo.now) (columns bs.now bb.now bm.now bw.now bi.now bo.now)) sources.now source_offsets.now targets.now target_offsets.now path.old (length fl.old ∷ length bl.old ∷ length fh.old ∷ length bh.old ∷ []))) result.now number.new weight.new }
+    ensures { Hands (query (call_of g.now sources.now targets.now path.old (length fl.old ∷ length bl.old ∷ length fh.old ∷ length bh.old ∷ []))) result.now number.new weight.new }
 {
-    let count = fill_path(
-        n,
-        ranks,
-        fs,
-        fb,
-        fm,
-        fw,
-        fi,
-        fo,
-        bs,
-        bb,
-        bm,
-        bw,
-        bi,
-        bo,
-        sources,
-        source_offsets,
-        targets,
-        target_offsets,
-        path,
-        number,
-        weight,
-        fl,
-        bl,
-        fh,
-        bh,
-    );
+    let count = fill_path(g, sources, targets, path, number, weight, fl, bl, fh, bh);
     &mut path[..count]
 }

@@ -12,6 +12,7 @@ pub mod Arcs
 pub mod Pairs
 pub mod Heaps
 pub mod Rows
+pub mod Refused
 pub mod Steps
 pub mod Ascending
 pub mod Refutes

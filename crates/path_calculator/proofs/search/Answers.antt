@@ -1,6 +1,8 @@
 -- The search of a query: from entered ends and the first step, through the rounds.
-use native.Mathlib.Omega.{arith}
-use Rattle.rules.specs.Columns.{forward, backward, table}
+use Rattle.std.proofs.Common.{rules, arith, ◌≤◌, get_or}
+use Rattle.rules.specs.Numbers.{invalid}
+use Rattle.rules.specs.Columns.{forward, backward, table, begin}
+use Rattle.rules.specs.TableRules.{used}
 use Rattle.path_calculator.proofs.Entered.{all_small, entering, running, searched_is, fwd_left, bwd_left}
 use Rattle.path_calculator.proofs.search.Goals as goal
 
@@ -33,7 +35,10 @@ rounds-requires c =
     c.enter-f.auto.labels c.enter-b.auto.labels c.enter-f.auto.heap c.enter-b.auto.heap
 
 pub returns : goal.returns
+unfolding used begin
 returns c =
+    let few_fwd : get_or c.args.g.now.fwd.starts.now c.args.g.now.num_nodes 0 ≤ invalid = search rules in
+    let few_bwd : get_or c.args.g.now.bwd.starts.now c.args.g.now.num_nodes 0 ≤ invalid = search rules in
     let first = c.first_step-best.ensures in
     record {
       is = λ s.
@@ -44,4 +49,6 @@ returns c =
             fwd = fwd_left c.requires c.enter-f.ensures c.rounds.ensures;
             bwd = bwd_left c.requires c.enter-b.ensures c.rounds.ensures;
           };
+      few_fwd = few_fwd;
+      few_bwd = few_bwd;
     }

@@ -1,7 +1,4 @@
 -- A query that is not refused is searched, and what the search found is handed back.
-use native.Mathlib.Omega.{arith}
-use Rattle.rules.specs.Columns.{begin}
-use Rattle.rules.specs.TableRules.{used}
 use Rattle.query.proofs.Found.{searching, none_found, handing, walk_found}
 use Rattle.query.proofs.route.Goals as goal
 
@@ -12,10 +9,8 @@ pub returns-then-best : goal.returns-then-best
 returns-then-best c = none_found _ _ _ _ _ _ _ _ _ _ _ _ c.requires _ _ _ _ _ c.search-best.ensures c.if-best.true
 
 pub hand_back-requires : goal.hand_back-requires
-unfolding used begin
 hand_back-requires c =
-    let n = c.args.n in
-    handing _ _ _ _ _ _ _ _ _ _ _ _ c.requires _ _ _ _ _ c.search-best.ensures c.if-best.false (omega (arith, c.type_inv.fs n)) (omega (arith, c.type_inv.bs n)) c.search-best.auto.fl c.search-best.auto.bl
+    handing _ _ _ _ _ _ _ _ _ _ _ _ c.requires _ _ _ _ _ c.search-best.ensures c.if-best.false c.search-best.auto.fl c.search-best.auto.bl
 
 pub returns : goal.returns
 returns c = walk_found _ _ _ _ _ _ _ _ _ _ _ _ c.requires _ _ _ _ _ c.search-best.ensures c.if-best.false _ _ c.hand_back.ensures

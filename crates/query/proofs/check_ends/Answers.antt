@@ -1,7 +1,7 @@
 -- Each return is the first row that is met, by the tests that led there.
 use mathlib.Core.Path.{sym, ◌∙◌}
 use Rattle.query.proofs.FirstMet.{row_21, row_21_targets, row_22, row_22_targets, row_23, row_23_targets, ends_good}
-use Rattle.query.proofs.ends_refusal.Goals as goal
+use Rattle.query.proofs.check_ends.Goals as goal
 
 pub returns-then-not-ends_fit : goal.returns-then-not-ends_fit
 returns-then-not-ends_fit c = row_21 _ _ _ (sym c.ends_fit.ensures ∙ c.if-not-ends_fit.true)
