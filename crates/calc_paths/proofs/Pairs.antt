@@ -14,8 +14,7 @@ use Rattle.rules.specs.Query.{Answered, query}
 use Rattle.rules.proofs.TablesDecided.{tables_decided}
 use Rattle.query_laws.proofs.Accepted.{accepted}
 use Rattle.path_calculator.specs.Searching.{Earlier}
-use Rattle.query.specs.declared.Answer.{Answer}
-use Rattle.query.specs.Answers.{answer, Tells, Routing, Routed}
+use Rattle.query.specs.Answers.{Answer, answer, Tells, Routing, Routed}
 use Rattle.query.proofs.Handing.{part_long, tells_refused, tells_found}
 use Rattle.calc_paths.specs.Many.{Answers, own_places, pair_call}
 use Rattle.calc_paths.specs.Filling.{columns_of, Checked, Pairing, Paired, Filling, Filled, put_answer}

@@ -73,9 +73,9 @@ module _ (n : ℕ) (h : Hierarchy) (s t : ℕ) (lent scratch : List ℕ) where
   abbrev met : ℕ
   met = first_met (many_rows n h s t lent scratch)
 
-  pub tables_broken : (r : ℕ) → r ≡ check_refusal n h → (r ≡ 0 → ⊥) → 20 ≡ met
+  pub tables_broken : (r : ℕ) → r ≡ check_refusal n h → (r ≡ 0 → ⊥) → r ≡ met
   unfolding many_rows check_refusal check_rows first_met
-  tables_broken r is some = on_test (table_test n h) (λ t. absurd (some (is ∙ rw t))) (λ f. rw f)
+  tables_broken r is some = on_test (table_test n h) (λ t. absurd (some (is ∙ rw t))) (λ f. is ∙ rw f)
 
   module _ (r : ℕ) (is : r ≡ check_refusal n h) (none : r ≡ 0) where
     passes : table_test n h ≡ true

@@ -5,8 +5,7 @@ use Rattle.rules.specs.TableRules.{table_test}
 use Rattle.rules.specs.Refusals.{short, query_scratch}
 use Rattle.rules.specs.Query.{Answered, query}
 use Rattle.path_calculator.specs.Searching.{Earlier}
-use Rattle.query.specs.declared.Answer.{Answer}
-use Rattle.query.specs.Answers.{Tells}
+use Rattle.query.specs.Answers.{Answer, Tells}
 use Rattle.calc_paths.specs.Many.{Answers, PathsCall, PathsAnswered, own_places, pair_call}
 
 abbrev pub columns_of : List ℕ → List ℕ → List ℕ → List ℕ → Answers

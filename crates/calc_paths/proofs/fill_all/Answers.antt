@@ -1,24 +1,12 @@
--- The invariant: the pairs passed are answered, and what is left of the columns is as it was.
+-- The pairs passed are answered, and what is left of the columns is as it was.
 use native.Mathlib.Omega.{arith}
-use Rattle.calc_paths.proofs.Going.{going_first, filling, going_on, done}
+use Rattle.calc_paths.proofs.Going.{going_first, going_on}
 use Rattle.calc_paths.proofs.fill_all.Goals as goal
 
 pub loop-k-init : goal.loop-k-init
 loop-k-init c = going_first _ _ _ _ _ _ _ _ _ c.requires
 
-pub fill_pair-requires : goal.fill_pair-requires
-fill_pair-requires c = filling _ _ _ _ _ _ _ _ _ c.requires _ _ _ _ _ _ c.loop-k.invariant c.loop-k-test.true
-
-pub overflow_add-k : goal.overflow_add-k
-overflow_add-k c = omega (arith, c.loop-k-test.true)
-
-pub loop-k-smaller : goal.loop-k-smaller
-loop-k-smaller c = omega (arith, c.loop-k-test.true)
-
 pub loop-k-preserved : goal.loop-k-preserved
 loop-k-preserved c =
-    going_on _ _ _ _ _ _ _ _ _ c.requires _ _ _ _ _ _ c.loop-k.invariant c.loop-k-test.true _ _ _ _ _ c.fill_pair.ensures
+    going_on _ _ _ _ _ _ _ _ _ c.requires _ _ _ _ _ _ c.loop-k.invariant (omega arith) _ _ _ _ _ c.fill_pair.ensures
     c.fill_pair.auto.numbers c.fill_pair.auto.weights c.fill_pair.auto.lengths c.fill_pair.auto.paths c.fill_pair.auto.fl c.fill_pair.auto.bl c.fill_pair.auto.fh c.fill_pair.auto.bh
-
-pub returns : goal.returns
-returns c = done _ _ _ _ _ _ _ _ _ c.requires _ _ _ _ _ _ c.loop-k.invariant c.loop-k-test.false
