@@ -11,8 +11,7 @@ use Rattle.rules.specs.Refusals.{query_scratch}
 use Rattle.rules.specs.Query.{Answered, query}
 use Rattle.rules.specs.Program.{query_call, refused_line, route_line, answer_line}
 use Rattle.path_calculator.specs.Searching.{call}
-use Rattle.query.specs.declared.Answer.{Answer}
-use Rattle.query.specs.Answers.{Tells}
+use Rattle.query.specs.Answers.{Answer, Tells}
 use Rattle.query.proofs.Handing.{part_long}
 use Rattle.text.specs.Wrote.{Fits, Wrote}
 

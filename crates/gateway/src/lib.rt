@@ -4,161 +4,80 @@
 ghost use Rattle.std.specs.Prelude.{◌+◌, ◌^◌, ◌≤◌, ◌<◌, length};
 ghost use Rattle.rules.specs.Query.{query};
 ghost use Rattle.rules.specs.Program.{u16_at, query_call, answering, answer_line, program};
-ghost use Rattle.tables.specs.Lent.{columns, lent};
+ghost use Rattle.rules.specs.Refused.{code};
+ghost use Rattle.tables.specs.Lent.{hierarchy_of};
 ghost use Rattle.fast_graph_builder.specs.Promises.{answer};
 ghost use Rattle.query.specs.Answers.{Tells};
+ghost use Rattle.query.specs.Routes.{answer_of};
 ghost use Rattle.records.specs.Onward.{onward};
 ghost use Rattle.text.specs.Wrote.{Fits, Wrote};
 ghost use Rattle.gather.specs.Gathering.{Begun};
 ghost use Rattle.gateway.specs.Answering.{Small, Closed, Limited, Followed, AtLimit, Limits, after, Blank};
 
 use gather::gather;
-use query::Answer;
+use halves::Ends;
+use query::ShortestPath;
 use records::{kind_at, u16_at, u32_at};
+use rules::{Refusal, WEIGHT_MAX};
+use tables::{FastGraph, Table};
 use text::{bad_record, built_line, refused_line, route_line, too_long};
 
 // One query, on scratch of its own.
 fn ask(
-    n: usize,
-    ranks: &[u32],
-    fs: &[u32],
-    fb: &[u32],
-    fm: &[u32],
-    fw: &[u64],
-    fi: &[u32],
-    fo: &[u32],
-    bs: &[u32],
-    bb: &[u32],
-    bm: &[u32],
-    bw: &[u64],
-    bi: &[u32],
-    bo: &[u32],
+    g: &FastGraph<'_>,
     source: u32,
     target: u32,
     path: &mut [u32],
-) -> Answer
-    requires { Small n (lent ranks.now (columns fs.now fb.now fm.now fw.now fi.now fo.now) (columns bs.now bb.now bm.now bw.now bi.now bo.now)) × Blank path.old }
-    ensures { Tells (query (query_call n (lent ranks.now (columns fs.now fb.now fm.now fw.now fi.now fo.now) (columns bs.now bb.now bm.now bw.now bi.now bo.now)) source target)) result path.new }
+) -> Result<Option<ShortestPath>, Refusal>
+    requires { Small g.now.num_nodes (hierarchy_of g.now) × Blank path.old }
+    ensures { Tells (query (query_call g.now.num_nodes (hierarchy_of g.now) source target)) (answer_of result) path.new }
 {
     let mut fl = [0u64; 128];
     let mut bl = [0u64; 128];
     let mut fh = [0u64; 1024];
     let mut bh = [0u64; 1024];
-    let sources = [source];
-    let targets = [target];
-    let offsets = [0u64; 1];
-    let mut number = 0;
-    let mut weight = 0;
-    let f = 2 * (fs[n] as usize + 16);
-    let b = 2 * (bs[n] as usize + 16);
-    let count = query::fill_path(
-        n,
-        ranks,
-        fs,
-        fb,
-        fm,
-        fw,
-        fi,
-        fo,
-        bs,
-        bb,
-        bm,
-        bw,
-        bi,
-        bo,
-        &sources,
-        &offsets,
-        &targets,
-        &offsets,
+    let n = g.num_nodes;
+    let f = 2 * (g.fwd.starts[n] as usize + 16);
+    let b = 2 * (g.bwd.starts[n] as usize + 16);
+    let source = Ends {
+        nodes: &[source],
+        offsets: &[0],
+    };
+    let target = Ends {
+        nodes: &[target],
+        offsets: &[0],
+    };
+    query::calc_path(
+        g,
+        &source,
+        &target,
         path,
-        &mut number,
-        &mut weight,
         &mut fl[..4 * n],
         &mut bl[..4 * n],
         &mut fh[..f],
         &mut bh[..b],
-    );
-    Answer {
-        number,
-        weight,
-        count,
-    }
+    )
 }
 
 // The line of a query's record.
-fn answer_record(
-    input: &[u8],
-    at: usize,
-    n: usize,
-    ranks: &[u32],
-    fs: &[u32],
-    fb: &[u32],
-    fm: &[u32],
-    fw: &[u64],
-    fi: &[u32],
-    fo: &[u32],
-    bs: &[u32],
-    bb: &[u32],
-    bm: &[u32],
-    bw: &[u64],
-    bi: &[u32],
-    bo: &[u32],
-    out: &mut [u8],
-    end: usize,
-) -> usize
-    requires { Small n (lent ranks.now (columns fs.now fb.now fm.now fw.now fi.now fo.now) (columns bs.now bb.now bm.now bw.now bi.now bo.now)) × («at» + 6 < 2 ^ 64) × Fits end (answer_line (query (query_call n (lent ranks.now (columns fs.now fb.now fm.now fw.now fi.now fo.now) (columns bs.now bb.now bm.now bw.now bi.now bo.now)) (u16_at input.now («at» + 3)) (u16_at input.now («at» + 5))))) }
-    ensures { Wrote out.old end (answer_line (query (query_call n (lent ranks.now (columns fs.now fb.now fm.now fw.now fi.now fo.now) (columns bs.now bb.now bm.now bw.now bi.now bo.now)) (u16_at input.now («at» + 3)) (u16_at input.now («at» + 5))))) result out.new }
+fn answer_record(input: &[u8], at: usize, g: &FastGraph<'_>, out: &mut [u8], end: usize) -> usize
+    requires { Small g.now.num_nodes (hierarchy_of g.now) × («at» + 6 < 2 ^ 64) × Fits end (answer_line (query (query_call g.now.num_nodes (hierarchy_of g.now) (u16_at input.now («at» + 3)) (u16_at input.now («at» + 5))))) }
+    ensures { Wrote out.old end (answer_line (query (query_call g.now.num_nodes (hierarchy_of g.now) (u16_at input.now («at» + 3)) (u16_at input.now («at» + 5))))) result out.new }
 {
     let mut path = [0u32; 32];
-    let a = ask(
-        n,
-        ranks,
-        fs,
-        fb,
-        fm,
-        fw,
-        fi,
-        fo,
-        bs,
-        bb,
-        bm,
-        bw,
-        bi,
-        bo,
-        u16_at(input, at + 3),
-        u16_at(input, at + 5),
-        &mut path,
-    );
-    if a.number != 0 {
-        return refused_line(out, end, a.number);
+    let source = u16_at(input, at + 3);
+    let target = u16_at(input, at + 5);
+    match ask(g, source, target, &mut path) {
+        Ok(Some(route)) => route_line(out, end, route.weight, &path[..route.count]),
+        Ok(None) => route_line(out, end, WEIGHT_MAX, &path[..0]),
+        Err(refusal) => refused_line(out, end, refusal.into()),
     }
-    let count = a.count;
-    route_line(out, end, a.weight, &path[..count])
 }
 
 // The records after the build.
-fn answer_all(
-    input: &[u8],
-    at: usize,
-    n: usize,
-    ranks: &[u32],
-    fs: &[u32],
-    fb: &[u32],
-    fm: &[u32],
-    fw: &[u64],
-    fi: &[u32],
-    fo: &[u32],
-    bs: &[u32],
-    bb: &[u32],
-    bm: &[u32],
-    bw: &[u64],
-    bi: &[u32],
-    bo: &[u32],
-    out: &mut [u8],
-    end: usize,
-) -> usize
-    requires { Small n (lent ranks.now (columns fs.now fb.now fm.now fw.now fi.now fo.now) (columns bs.now bb.now bm.now bw.now bi.now bo.now)) × (length input.now ≤ 16384) × Fits end (onward input.now «at» (answering n (lent ranks.now (columns fs.now fb.now fm.now fw.now fi.now fo.now) (columns bs.now bb.now bm.now bw.now bi.now bo.now)))) }
-    ensures { Wrote out.old end (onward input.now «at» (answering n (lent ranks.now (columns fs.now fb.now fm.now fw.now fi.now fo.now) (columns bs.now bb.now bm.now bw.now bi.now bo.now)))) result out.new }
+fn answer_all(input: &[u8], at: usize, g: &FastGraph<'_>, out: &mut [u8], end: usize) -> usize
+    requires { Small g.now.num_nodes (hierarchy_of g.now) × (length input.now ≤ 16384) × Fits end (onward input.now «at» (answering g.now.num_nodes (hierarchy_of g.now))) }
+    ensures { Wrote out.old end (onward input.now «at» (answering g.now.num_nodes (hierarchy_of g.now))) result out.new }
 {
     let mut at = at;
     let mut end = end;
@@ -166,9 +85,7 @@ fn answer_all(
         if kind_at(input, at) != 5 {
             return bad_record(out, end, at);
         }
-        end = answer_record(
-            input, at, n, ranks, fs, fb, fm, fw, fi, fo, bs, bb, bm, bw, bi, bo, out, end,
-        );
+        end = answer_record(input, at, g, out, end);
         at += 7;
     }
     end
@@ -176,36 +93,21 @@ fn answer_all(
 
 // A refused build stops the program.
 fn after_build(
-    number: u32,
+    outcome: Result<(), Refusal>,
     input: &[u8],
     at: usize,
-    n: usize,
-    ranks: &[u32],
-    fs: &[u32],
-    fb: &[u32],
-    fm: &[u32],
-    fw: &[u64],
-    fi: &[u32],
-    fo: &[u32],
-    bs: &[u32],
-    bb: &[u32],
-    bm: &[u32],
-    bw: &[u64],
-    bi: &[u32],
-    bo: &[u32],
+    g: &FastGraph<'_>,
     out: &mut [u8],
 ) -> usize
-    requires { Closed input.now «at» n number (lent ranks.now (columns fs.now fb.now fm.now fw.now fi.now fo.now) (columns bs.now bb.now bm.now bw.now bi.now bo.now)) }
-    ensures { Wrote out.old 0 (after input.now «at» n (answer number (lent ranks.now (columns fs.now fb.now fm.now fw.now fi.now fo.now) (columns bs.now bb.now bm.now bw.now bi.now bo.now)))) result out.new }
+    requires { Closed input.now «at» g.now.num_nodes (code outcome) (hierarchy_of g.now) }
+    ensures { Wrote out.old 0 (after input.now «at» g.now.num_nodes (answer (code outcome) (hierarchy_of g.now))) result out.new }
 {
-    let refused = number != 0;
-    if refused {
-        return refused_line(out, 0, number);
+    if let Err(refusal) = outcome {
+        return refused_line(out, 0, refusal.into());
     }
-    let end = built_line(out, 0, fs[n], bs[n]);
-    answer_all(
-        input, at, n, ranks, fs, fb, fm, fw, fi, fo, bs, bb, bm, bw, bi, bo, out, end,
-    )
+    let n = g.num_nodes;
+    let end = built_line(out, 0, g.fwd.starts[n], g.bwd.starts[n]);
+    answer_all(input, at, g, out, end)
 }
 
 // Room for 32 nodes: 992 live arcs, and half as many entries a table.
@@ -241,7 +143,7 @@ fn build_records(
     let mut nodes = [0u32; 128];
     let mut labels = [0u64; 64];
     let mut heap = [0u64; 1986];
-    let number = fast_graph_builder::build_with_order(
+    let outcome = fast_graph_builder::build_with_order(
         n,
         tails,
         heads,
@@ -268,10 +170,27 @@ fn build_records(
         &mut labels[..2 * n],
         &mut heap,
     );
-    after_build(
-        number, input, at, n, &ranks, &fs, &fb, &fm, &fw, &fi, &fo, &bs, &bb, &bm, &bw, &bi, &bo,
-        out,
-    )
+    let g = FastGraph {
+        num_nodes: n,
+        ranks: &ranks,
+        fwd: Table {
+            starts: &fs,
+            bases: &fb,
+            neighbours: &fm,
+            weights: &fw,
+            ins: &fi,
+            outs: &fo,
+        },
+        bwd: Table {
+            starts: &bs,
+            bases: &bb,
+            neighbours: &bm,
+            weights: &bw,
+            ins: &bi,
+            outs: &bo,
+        },
+    };
+    after_build(outcome, input, at, &g, out)
 }
 
 // At record 4.
