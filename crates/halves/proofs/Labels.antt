@@ -258,6 +258,11 @@ pub stored_is : (l own : Label) → l.weight < own.weight → lower l own ≡ l
 unfolding lower
 stored_is l own less = rw (lt-ltb l.weight own.weight less, lower)
 
+-- no place comes or goes
+pub put_label_long : (labels : List ℕ) (base v : ℕ) (l : Label) → length (put_label labels base v l) ≡ length labels
+unfolding put_label
+put_label_long labels base v l = simp length-set refl
+
 -- What `offer` promises, either way.
 module _ (labels heap : List ℕ) (base len v : ℕ) (l : Label) (room : 4 * (v + 1) ≤ length labels) where
   pub offers_new : (labels' heap' : List ℕ) → l.weight < (seen labels base v).weight → labels' ≡ put_label labels base v l →

@@ -8,7 +8,7 @@
 ghost use Rattle.std.specs.Prelude.{◌≡◌, ◌+◌, ◌*◌, ◌^◌, ◌<◌, ◌≤◌, ltb, length};
 ghost use Rattle.rules.specs.Query.{lower};
 ghost use Rattle.halves.specs.Labels.{of, label, seen, stamp, put_label, put_settled, Before};
-ghost use Rattle.halves.specs.Promises.{Offering, Offers, Relaxing, Relaxes, Entering, Enters};
+ghost use Rattle.halves.specs.Slices.{SameHeap, OfferingTo, OffersTo, RelaxingFrom, RelaxesFrom, EnteringInto, EntersInto};
 
 use rules::{INVALID, WEIGHT_MAX};
 
@@ -42,144 +42,127 @@ impl Label {
     }
 }
 
-// The label of v; the marks where it has none.
-pub fn load(labels: &[u64], base: u64, v: usize) -> Label
-    requires { 4 * (v + 1) ≤ length labels.now }
-    ensures { of result ≡ seen labels.now base v }
-{
-    if labels[4 * v + 3] < base {
-        return Label {
-            weight: WEIGHT_MAX,
-            parent: INVALID as u64,
-            via: INVALID as u64,
-        };
-    }
-    Label {
-        weight: labels[4 * v],
-        parent: labels[4 * v + 1],
-        via: labels[4 * v + 2],
-    }
+// A side's search: `len` items are in its heap, and `base` is the query's.
+#[derive(Drop)]
+pub struct Half<'a> {
+    pub labels: &'a mut [u64],
+    pub heap: &'a mut [u64],
+    pub base: u64,
+    pub len: usize,
 }
 
-// The weight of it alone.
-pub fn get_weight(labels: &[u64], base: u64, v: usize) -> u64
-    requires { 4 * (v + 1) ≤ length labels.now }
-    ensures { result ≡ (seen labels.now base v).weight }
-{
-    if labels[4 * v + 3] < base {
-        return WEIGHT_MAX;
+impl Half<'_> {
+    // The label of v; the marks where it has none.
+    pub fn load(&self, v: usize) -> Label
+        requires { 4 * (v + 1) ≤ length self.now.labels.now }
+        ensures { of result ≡ seen self.now.labels.now self.now.base v }
+    {
+        if self.labels[4 * v + 3] < self.base {
+            return Label {
+                weight: WEIGHT_MAX,
+                parent: INVALID as u64,
+                via: INVALID as u64,
+            };
+        }
+        Label {
+            weight: self.labels[4 * v],
+            parent: self.labels[4 * v + 1],
+            via: self.labels[4 * v + 2],
+        }
     }
-    labels[4 * v]
-}
 
-pub fn is_settled(labels: &[u64], base: u64, v: usize) -> bool
-    requires { 4 * (v + 1) ≤ length labels.now }
-    ensures { result ≡ ltb base (stamp labels.now v) }
-{
-    base < labels[4 * v + 3]
-}
-
-// A settled node stays settled: only a stamp of an earlier query changes.
-fn update_node(labels: &mut [u64], base: u64, v: usize, label: Label)
-    requires { 4 * (v + 1) ≤ length labels.old }
-    ensures { labels.new ≡ put_label labels.old base v (of label) }
-{
-    let mut stamp = labels[4 * v + 3];
-    if stamp < base {
-        stamp = base;
+    // The weight of it alone.
+    pub fn get_weight(&self, v: usize) -> u64
+        requires { 4 * (v + 1) ≤ length self.now.labels.now }
+        ensures { result ≡ (seen self.now.labels.now self.now.base v).weight }
+    {
+        if self.labels[4 * v + 3] < self.base {
+            return WEIGHT_MAX;
+        }
+        self.labels[4 * v]
     }
-    labels[4 * v] = label.weight;
-    labels[4 * v + 1] = label.parent;
-    labels[4 * v + 2] = label.via;
-    labels[4 * v + 3] = stamp;
-}
 
-pub fn set_settled(labels: &mut [u64], base: u64, v: usize)
-    requires { (4 * (v + 1) ≤ length labels.old) × (base + 1 < 2 ^ 64) }
-    ensures { labels.new ≡ put_settled labels.old base v }
-{
-    labels[4 * v + 3] = base + 1;
-}
-
-// Labels only fall. Returns how many items the heap then has.
-pub fn offer(
-    labels: &mut [u64],
-    heap: &mut [u64],
-    base: u64,
-    len: usize,
-    v: usize,
-    weight: u64,
-    parent: u64,
-    via: u64,
-) -> usize
-    requires { Offering labels.old heap.old len v }
-    ensures { Offers labels.old heap.old labels.new heap.new base len result v (label weight parent via) }
-{
-    let own = load(labels, base, v);
-    if weight < own.weight {
-        update_node(labels, base, v, own.lower(weight, parent, via));
-        heap::push(heap, len, weight, v as u64);
-        return len + 1;
+    pub fn is_settled(&self, v: usize) -> bool
+        requires { 4 * (v + 1) ≤ length self.now.labels.now }
+        ensures { result ≡ ltb self.now.base (stamp self.now.labels.now v) }
+    {
+        self.base < self.labels[4 * v + 3]
     }
-    len
-}
 
-// Offers along the entries from `begin` to `end` of a node that left the heap with `weight`.
-pub fn relax(
-    neighbours: &[u32],
-    weights: &[u64],
-    labels: &mut [u64],
-    heap: &mut [u64],
-    base: u64,
-    len: usize,
-    node: u64,
-    weight: u64,
-    begin: usize,
-    end: usize,
-) -> usize
-    requires { Relaxing neighbours.now weights.now labels.old heap.old len weight begin end }
-    ensures { Relaxes neighbours.now weights.now labels.old heap.old labels.new heap.new base len result node weight begin end }
-{
-    let mut len = len;
-    for e in begin..end {
-        len = offer(
-            labels,
-            heap,
-            base,
-            len,
-            neighbours[e] as usize,
-            weight + weights[e],
-            node,
-            e as u64,
-        );
+    // A settled node stays settled: only a stamp of an earlier query changes.
+    fn update_node(&mut self, v: usize, label: Label)
+        requires { 4 * (v + 1) ≤ length self.old.labels.now }
+        ensures label { self.new.labels.now ≡ put_label self.old.labels.now self.old.base v (of label) }
+        ensures rest { SameHeap self.old self.new }
+    {
+        let mut stamp = self.labels[4 * v + 3];
+        if stamp < self.base {
+            stamp = self.base;
+        }
+        self.labels[4 * v] = label.weight;
+        self.labels[4 * v + 1] = label.parent;
+        self.labels[4 * v + 2] = label.via;
+        self.labels[4 * v + 3] = stamp;
     }
-    len
-}
 
-// Sources, or targets, enter an empty heap: each is its own parent.
-pub fn enter(
-    ends: &Ends<'_>,
-    labels: &mut [u64],
-    heap: &mut [u64],
-    base: u64,
-) -> usize
-    requires { Entering ends.now.nodes.now ends.now.offsets.now labels.old heap.old }
-    ensures { Enters ends.now.nodes.now ends.now.offsets.now labels.old heap.old labels.new heap.new base result }
-{
-    let mut len = 0;
-    for (k, node) in ends.nodes.iter().enumerate() {
-        len = offer(
-            labels,
-            heap,
-            base,
-            len,
-            *node as usize,
-            ends.offsets[k],
-            *node as u64,
-            INVALID as u64,
-        );
+    pub fn set_settled(&mut self, v: usize)
+        requires { (4 * (v + 1) ≤ length self.old.labels.now) × (self.old.base + 1 < 2 ^ 64) }
+        ensures mark { self.new.labels.now ≡ put_settled self.old.labels.now self.old.base v }
+        ensures rest { SameHeap self.old self.new }
+    {
+        self.labels[4 * v + 3] = self.base + 1;
     }
-    len
+
+    // Labels only fall.
+    pub fn offer(&mut self, v: usize, label: Label)
+        requires { OfferingTo self.old v }
+        ensures { OffersTo self.old self.new v (of label) }
+    {
+        let own = self.load(v);
+        if label.weight < own.weight {
+            self.update_node(v, own.lower(label.weight, label.parent, label.via));
+            heap::push(self.heap, self.len, label.weight, v as u64);
+            self.len += 1;
+        }
+    }
+
+    // Offers along the entries from `begin` to `end` of a node that left the heap with `weight`.
+    pub fn relax(
+        &mut self,
+        neighbours: &[u32],
+        weights: &[u64],
+        node: u64,
+        weight: u64,
+        begin: usize,
+        end: usize,
+    )
+        requires { RelaxingFrom neighbours.now weights.now self.old weight begin end }
+        ensures { RelaxesFrom neighbours.now weights.now self.old self.new node weight begin end }
+    {
+        for e in begin..end {
+            let label = Label {
+                weight: weight + weights[e],
+                parent: node,
+                via: e as u64,
+            };
+            self.offer(neighbours[e] as usize, label);
+        }
+    }
+
+    // Sources, or targets, enter an empty heap: each is its own parent.
+    pub fn enter(&mut self, ends: &Ends<'_>)
+        requires { (self.old.len ≡ 0) × EnteringInto ends.now self.old }
+        ensures { EntersInto ends.now self.old self.new }
+    {
+        for (k, node) in ends.nodes.iter().enumerate() {
+            let label = Label {
+                weight: ends.offsets[k],
+                parent: *node as u64,
+                via: INVALID as u64,
+            };
+            self.offer(*node as usize, label);
+        }
+    }
 }
 
 // Stamps that are of no query.

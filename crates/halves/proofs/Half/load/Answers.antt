@@ -2,12 +2,12 @@
 use borrow.Author.Tests.{lt-ltb, le-ltb}
 use Rattle.rules.specs.Query.{no_label}
 use Rattle.halves.specs.Labels.{seen}
-use Rattle.halves.proofs.load.Goals as goal
+use Rattle.halves.proofs.Half.load.Goals as goal
 
-pub returns-then-labels-v : goal.returns-then-labels-v
+pub returns-then-self-v : goal.returns-then-self-v
 unfolding seen no_label
-returns-then-labels-v c = rw (lt-ltb _ _ c.if-labels-v.true, seen)
+returns-then-self-v c = rw (lt-ltb _ _ c.if-self-v.true, seen)
 
 pub returns : goal.returns
 unfolding seen
-returns c = rw (le-ltb _ _ c.if-labels-v.false, seen)
+returns c = rw (le-ltb _ _ c.if-self-v.false, seen)

@@ -1,0 +1,38 @@
+-- The same of the code's half: its slices stay as long as they are, and its base as it is.
+use Rattle.std.specs.Prelude.{List, ◌≡◌, ℕ, length}
+use Rattle.rules.specs.Query.{Label}
+use Rattle.halves.specs.declared.Half.{Half}
+use Rattle.halves.specs.declared.Ends.{Ends}
+use Rattle.halves.specs.Promises.{Offering, Offers, Relaxing, Relaxes, Entering, Enters}
+
+pub record Kept (x y : Half) : Type 0 where
+  pub labels : length y.labels.now ≡ length x.labels.now
+  pub heap : length y.heap.now ≡ length x.heap.now
+  pub base : y.base ≡ x.base
+
+-- nothing but labels changes
+pub record SameHeap (x y : Half) : Type 0 where
+  pub heap : y.heap.now ≡ x.heap.now
+  pub base : y.base ≡ x.base
+  pub len : y.len ≡ x.len
+
+abbrev pub OfferingTo : Half → ℕ → Type 0
+OfferingTo x = Offering x.labels.now x.heap.now x.len
+
+pub record OffersTo (x y : Half) (v : ℕ) (l : Label) : Type 0 where
+  pub offers : Offers x.labels.now x.heap.now y.labels.now y.heap.now x.base x.len y.len v l
+  pub kept : Kept x y
+
+abbrev pub RelaxingFrom : List ℕ → List ℕ → Half → ℕ → ℕ → ℕ → Type 0
+RelaxingFrom neighbours weights x = Relaxing neighbours weights x.labels.now x.heap.now x.len
+
+pub record RelaxesFrom (neighbours weights : List ℕ) (x y : Half) (node weight begin end : ℕ) : Type 0 where
+  pub relaxes : Relaxes neighbours weights x.labels.now x.heap.now y.labels.now y.heap.now x.base x.len y.len node weight begin end
+  pub kept : Kept x y
+
+abbrev pub EnteringInto : Ends → Half → Type 0
+EnteringInto e x = Entering e.nodes.now e.offsets.now x.labels.now x.heap.now
+
+pub record EntersInto (e : Ends) (x y : Half) : Type 0 where
+  pub enters : Enters e.nodes.now e.offsets.now x.labels.now x.heap.now y.labels.now y.heap.now x.base y.len
+  pub kept : Kept x y
