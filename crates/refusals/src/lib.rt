@@ -4,8 +4,11 @@
 ghost use Rattle.std.specs.Prelude.{Bool, ◌||◌, List, [], ◌∷◌, ◌≡◌, ℕ, ◌≤◌};
 ghost use Rattle.rules.specs.Columns.{Hierarchy};
 ghost use Rattle.rules.specs.Refusals.{short, build_scratch};
+ghost use Rattle.rules.specs.Refused.{code};
 ghost use Rattle.input_graph.specs.Given.{links};
 ghost use Rattle.refusals.specs.Measures.{uneven_by, lent_short_by, Refuses};
+
+use rules::Refusal;
 
 // Whether a table of these lengths has too few starts for n nodes, or columns of unequal length.
 #[tactic(auto, unfolding(crate::specs::Measures::uneven_by))]
@@ -95,19 +98,22 @@ pub fn lent_short(
         || scratch_short(n, pool, arcs, weights, nodes, labels, heap)
 }
 
-// The lowest of rows 1 to 8 that is met, or 0.
-pub fn refusal(n: usize, tails: &[u32], heads: &[u32], weights: &[u32], order: &[u32]) -> u32
-    ensures { Refuses n (links tails.now heads.now weights.now) order.now result }
+// The lowest of rows 1 to 8 that is met.
+pub fn refusal(
+    n: usize,
+    tails: &[u32],
+    heads: &[u32],
+    weights: &[u32],
+    order: &[u32],
+) -> Result<(), Refusal>
+    ensures { Refuses n (links tails.now heads.now weights.now) order.now (code result) }
 {
-    let number = input_graph::check_graph(n, tails, heads, weights);
-    if number != 0 {
-        return number;
-    }
+    input_graph::check_graph(n, tails, heads, weights)?;
     if order.len() != n {
-        return 7;
+        return Err(Refusal::OrderLength);
     }
     if permutation::each_once(n, order) {
-        return 0;
+        return Ok(());
     }
-    8
+    Err(Refusal::Order)
 }
