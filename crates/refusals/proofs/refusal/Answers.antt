@@ -1,33 +1,9 @@
 -- Rows 1 to 6 by the check of the links, then 7, then 8.
-use mathlib.Core.Path.{◌≡◌, sym, ◌∙◌}
+use mathlib.Core.Path.{sym, ◌∙◌}
 use native.Mathlib.Omega.{arith}
 use Rattle.std.proofs.lemmas.Result.{err_from_is_err_and}
-use Rattle.rules.specs.declared.Refusal.{Refusal}
-use Rattle.rules.specs.declared.Refusal.TheVariants.{Nodes, Links, LinkEnd, Loop, LinkWeight, Unsorted, OrderLength, Order, Lent, Pool, Entries, Sum, Tables, Ends, EndNode, Offset, Room, Walk}
-use Rattle.rules.specs.Refused.{number_of}
-use Rattle.refusals.proofs.Tests.{first_graph, first_later, nodes_few, wrong_length, wrong_numbers, right_order}
+use Rattle.refusals.proofs.Tests.{named, first_graph, first_later, nodes_few, wrong_length, wrong_numbers, right_order}
 use Rattle.refusals.proofs.refusal.Goals as goal
-
--- no refusal has the number 0
-named : (r : Refusal) → number_of r ≡ 0 → ⊥
-named Nodes e = absurd (omega (arith, e))
-named Links e = absurd (omega (arith, e))
-named LinkEnd e = absurd (omega (arith, e))
-named Loop e = absurd (omega (arith, e))
-named LinkWeight e = absurd (omega (arith, e))
-named Unsorted e = absurd (omega (arith, e))
-named OrderLength e = absurd (omega (arith, e))
-named Order e = absurd (omega (arith, e))
-named Lent e = absurd (omega (arith, e))
-named Pool e = absurd (omega (arith, e))
-named Entries e = absurd (omega (arith, e))
-named Sum e = absurd (omega (arith, e))
-named Tables e = absurd (omega (arith, e))
-named Ends e = absurd (omega (arith, e))
-named EndNode e = absurd (omega (arith, e))
-named Offset e = absurd (omega (arith, e))
-named Room e = absurd (omega (arith, e))
-named Walk e = absurd (omega (arith, e))
 
 pub returns-in_err-check_graph : goal.returns-in_err-check_graph
 returns-in_err-check_graph c =
