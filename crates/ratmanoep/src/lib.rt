@@ -56,7 +56,7 @@ pub extern "C" fn ratmanoep_build_with_order(
         (table_of bwd_starts.old bwd_bases.old bwd_neighbours.old bwd_weights.old bwd_ins.old bwd_outs.old))
         (lengths arcs.old weights.old nodes.old labels.old heap.old)) limit pool) }
 {
-    fast_graph_builder::build_with_order(
+    rules::number(fast_graph_builder::build_with_order(
         n,
         tails,
         heads,
@@ -82,7 +82,7 @@ pub extern "C" fn ratmanoep_build_with_order(
         nodes,
         labels,
         heap,
-    )
+    ))
 }
 
 // The table check.
