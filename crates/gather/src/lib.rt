@@ -14,6 +14,7 @@ pub struct Gathered {
     pub at: usize,
 }
 
+// The columns stay parameters of their own: two fields of a struct are not lent as `&mut` from behind one reference.
 fn put_link(
     input: &[u8],
     at: usize,

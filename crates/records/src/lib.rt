@@ -47,7 +47,8 @@ fn record_length(kind: u8) -> usize
     }
 }
 
-// The kind of the record that stands at an offset, or 0 where none stands there whole.
+// The kind of the record that stands at an offset, or 0 where none stands there whole. It stays a byte and no `Option`: document 01 asks
+// for a match on the kind byte, with ranges for the refused kinds, and 0 is one of them.
 pub fn kind_at(input: &[u8], at: usize) -> u8
     ensures { result ≡ whole_kind (drop «at» input.now) }
 {

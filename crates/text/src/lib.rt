@@ -1,5 +1,5 @@
 // The lines of the record program, written into a lent buffer from a place on, as far as there is room. Each function returns the place after
-// what it wrote.
+// what it wrote. The buffer and the place stay two parameters: of a struct that held both each contract would say what its field lends.
 #![tactic(auto)]
 
 ghost use Rattle.std.specs.Prelude.{[], ◌∷◌, ◌++◌};
