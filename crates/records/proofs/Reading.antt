@@ -31,11 +31,6 @@ u32_of xs at p q r s e =
     let three : get_or xs (at + 3) 0 ≡ get_or xs (suc (suc (suc at))) 0 = ap (λ (k : ℕ). get_or xs k 0) (omega arith) in
     omega (arith, p, q, r, s, e, one, two, three)
 
--- a kind beyond 5 has no length
-pub no_length : (kind : ℕ) → 6 ≤ kind → 0 ≡ record_length kind
-unfolding record_length
-no_length kind h = sym (get_or-eq_default (0 ∷ 5 ∷ 11 ∷ 5 ∷ 7 ∷ 7 ∷ []) 0 {n = kind} (omega arith))
-
 module _ (input : List ℕ) (at : ℕ) where
   abbrev bs : List ℕ
   bs = drop at input
