@@ -35,8 +35,8 @@ enum Column {
 }
 
 // A hierarchy of the list: its nodes, how long its columns are, the check's number, how many queries it has, and its columns. Each
-// column has 64 places of one array, at 64 times its own, and the weights in an array of their own: so a longer one goes on into the
-// places of the next, and as many numbers are read of it as there are in the list.
+// column has 64 places of one array, from 64 times its own place on, and the weights have an array of theirs. They are not an array
+// each, since a longer column goes on into the next one's places: such a list is answered as it always was.
 #[derive(Drop)]
 struct Hierarchy {
     nodes: u32,
