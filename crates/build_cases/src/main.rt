@@ -148,7 +148,7 @@ fn build(head: &Head, tails: &[u32], heads: &[u32], weights: &[u32], order: &[u3
     let mut nodes = [7u32; 100];
     let mut labels = [7u64; 50];
     let mut heap = [7u64; 146];
-    let number = fast_graph_builder::build_with_order(
+    let outcome = fast_graph_builder::build_with_order(
         head.nodes as usize,
         tails,
         heads,
@@ -176,7 +176,7 @@ fn build(head: &Head, tails: &[u32], heads: &[u32], weights: &[u32], order: &[u3
         &mut heap,
     );
     Built {
-        number,
+        number: rules::number(outcome),
         ranks,
         fwd,
         bwd,

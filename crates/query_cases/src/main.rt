@@ -5,8 +5,8 @@
 ghost use Rattle.std.specs.Prelude.{◌<◌, ◌^◌, length};
 
 use fixed::{Number, Reader};
-use query::Answer;
 use std::io;
+use tables::{FastGraph, Table};
 
 // How many queries a hierarchy has, how many of them answered as the list says, and whether its check did.
 #[derive(Clone, Copy)]
@@ -132,6 +132,15 @@ fn read_ends(list: &mut Reader, count: u32) -> Ends {
     }
 }
 
+impl Ends {
+    fn given(&self) -> halves::Ends<'_> {
+        halves::Ends {
+            nodes: part(&self.nodes, 0, self.count),
+            offsets: part(&self.offsets, 0, self.count),
+        }
+    }
+}
+
 impl Hierarchy {
     fn column(&self, which: Column) -> &[u32] {
         let i = which as usize;
@@ -150,27 +159,31 @@ impl Hierarchy {
         self.weights(Column::BwdWeights, 64)
     }
 
-    fn check(&self) -> u32 {
-        tables::check_tables(
-            self.nodes as usize,
-            self.column(Column::Ranks),
-            self.column(Column::FwdStarts),
-            self.column(Column::FwdBases),
-            self.column(Column::FwdNeighbours),
-            self.fwd_weights(),
-            self.column(Column::FwdIns),
-            self.column(Column::FwdOuts),
-            self.column(Column::BwdStarts),
-            self.column(Column::BwdBases),
-            self.column(Column::BwdNeighbours),
-            self.bwd_weights(),
-            self.column(Column::BwdIns),
-            self.column(Column::BwdOuts),
-        )
+    fn graph(&self) -> FastGraph<'_> {
+        FastGraph {
+            num_nodes: self.nodes as usize,
+            ranks: self.column(Column::Ranks),
+            fwd: Table {
+                starts: self.column(Column::FwdStarts),
+                bases: self.column(Column::FwdBases),
+                neighbours: self.column(Column::FwdNeighbours),
+                weights: self.fwd_weights(),
+                ins: self.column(Column::FwdIns),
+                outs: self.column(Column::FwdOuts),
+            },
+            bwd: Table {
+                starts: self.column(Column::BwdStarts),
+                bases: self.column(Column::BwdBases),
+                neighbours: self.column(Column::BwdNeighbours),
+                weights: self.bwd_weights(),
+                ins: self.column(Column::BwdIns),
+                outs: self.column(Column::BwdOuts),
+            },
+        }
     }
 
-    // One query, over scratch that holds rubbish.
-    fn ask(&self, sources: &Ends, targets: &Ends, path: &mut [u32]) -> Answer {
+    // One query, over scratch that holds rubbish: its number, its weight, and how many places of the path are the walk.
+    fn ask(&self, sources: &Ends, targets: &Ends, path: &mut [u32]) -> (u32, u64, usize) {
         let mut fwd_labels = [18446744073709551615u64; 256];
         let mut bwd_labels = [9223372036854775808u64; 256];
         let mut fwd_heap = [18446744073709551615u64; 256];
@@ -178,24 +191,9 @@ impl Hierarchy {
         let mut number = 0;
         let mut weight = 0;
         let count = query::fill_path(
-            self.nodes as usize,
-            self.column(Column::Ranks),
-            self.column(Column::FwdStarts),
-            self.column(Column::FwdBases),
-            self.column(Column::FwdNeighbours),
-            self.fwd_weights(),
-            self.column(Column::FwdIns),
-            self.column(Column::FwdOuts),
-            self.column(Column::BwdStarts),
-            self.column(Column::BwdBases),
-            self.column(Column::BwdNeighbours),
-            self.bwd_weights(),
-            self.column(Column::BwdIns),
-            self.column(Column::BwdOuts),
-            part(&sources.nodes, 0, sources.count),
-            part(&sources.offsets, 0, sources.count),
-            part(&targets.nodes, 0, targets.count),
-            part(&targets.offsets, 0, targets.count),
+            &self.graph(),
+            &sources.given(),
+            &targets.given(),
             path,
             &mut number,
             &mut weight,
@@ -204,11 +202,7 @@ impl Hierarchy {
             &mut fwd_heap,
             &mut bwd_heap,
         );
-        Answer {
-            number,
-            weight,
-            count,
-        }
+        (number, weight, count)
     }
 
     // Whether the list's next query answers as it says, over the whole path. One with more places than the program has is not asked.
@@ -217,25 +211,21 @@ impl Hierarchy {
         let sources = read_ends(list, listed.sources);
         let targets = read_ends(list, listed.targets);
         let mut path = [listed.filled; 64];
-        let answer = match path.get_mut(..listed.places as usize) {
+        let (number, weight, count) = match path.get_mut(..listed.places as usize) {
             Some(path) => self.ask(&sources, &targets, path),
-            None => Answer {
-                number: 0,
-                weight: 0,
-                count: 0,
-            },
+            None => (0, 0, 0),
         };
         let walk = list.matches(&path, listed.length as usize, listed.filled);
-        answer.number == listed.number
-            && answer.weight == listed.weight
-            && answer.count == listed.length as usize
+        number == listed.number
+            && weight == listed.weight
+            && count == listed.length as usize
             && walk
     }
 }
 
 fn replay(list: &mut Reader) -> Replayed {
     let hierarchy = read_hierarchy(list);
-    let checked = hierarchy.check() == hierarchy.number;
+    let checked = rules::number(tables::check_tables(&hierarchy.graph())) == hierarchy.number;
     let mut agree = 0;
     for _ in 0..hierarchy.asks {
         if hierarchy.replay_query(list) {
