@@ -14,7 +14,7 @@ use Rattle.walks.specs.Agreement.{Agree}
 use Rattle.query_laws.specs.LeastWalk.{LeastWalk}
 use Rattle.routes.proofs.ThirdDemand.{third_demand}
 use Rattle.fast_graph_builder.proofs.Outcome as build_outcome
-use Rattle.query.specs.declared.Answer.{Answer}
+use Rattle.query.specs.Answers.{Answer}
 use Rattle.query.proofs.Outcome as query_outcome
 use Rattle.calc_paths.proofs.Outcome as many_outcome
 use Rattle.calc_paths.proofs.Each.{each_pair}

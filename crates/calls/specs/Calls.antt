@@ -10,7 +10,7 @@ use Rattle.walks.specs.Agreement.{Agree}
 use Rattle.query_laws.specs.LeastWalk.{Unreachable, LeastWalk}
 use Rattle.text.specs.Wrote.{Wrote}
 use Rattle.fast_graph_builder.specs.Outcome as build
-use Rattle.query.specs.declared.Answer.{Answer}
+use Rattle.query.specs.Answers.{Answer}
 use Rattle.query.specs.Outcome as query
 use Rattle.calc_paths.specs.Many.{Answers, PathsCall}
 use Rattle.calc_paths.specs.Outcome as many

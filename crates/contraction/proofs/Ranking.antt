@@ -19,6 +19,10 @@ use Rattle.rules.proofs.Ranges.{distinct_decides}
 use Rattle.rules.proofs.Ranks.{level_of, with_level}
 use Rattle.build_laws.proofs.Runs.{next_inside}
 use Rattle.build_laws.proofs.Enough.{level_short}
+use Rattle.std.specs.Prelude.{Result, Ok, Err}
+use Rattle.rules.specs.declared.Refusal.{Refusal}
+use Rattle.rules.specs.declared.Refusal.TheVariants.{Entries}
+use Rattle.rules.specs.Refused.{number_of}
 use Rattle.lists.specs.Memory.{memory, ends_at, touches}
 use Rattle.lists.specs.Walks.{Walk}
 use Rattle.lists.proofs.Walks.{first_out}
@@ -26,36 +30,29 @@ use Rattle.graph.specs.Stands.{Stands}
 use Rattle.graph.proofs.Reading.{own_walk, outs_walk, own_arcs, reads_outs, reads_ins}
 use Rattle.search.specs.Searching.{Lent}
 use Rattle.node_contractor.specs.declared.Work.{Work}
-use Rattle.node_contractor.specs.declared.Contracted.{Contracted}
-use Rattle.node_contractor.specs.declared.Contracted.TheVariants.{Went as contracted_went, Refused as contracted_refused}
 use Rattle.node_contractor.specs.Promises.{Contractible, Contracts}
 use Rattle.entries.specs.Laid.{side_of, part_of, laid_part}
 use Rattle.entries.specs.Promises.{Layable, Lays}
 use Rattle.entries.proofs.Laying.{raws_more, level_size}
-use Rattle.contraction.specs.declared.Ranked.TheVariants.{Went, Refused}
+use Rattle.contraction.specs.declared.Ranked.{Ranked}
 use Rattle.contraction.specs.Ranks.{Given, call, Parts, parts, laid_parts, At}
 use Rattle.contraction.specs.Promises.{Came, Stepping}
 use Rattle.contraction.proofs.Laid.{laid_long, laid_even, laid_starts}
 
 -- What a step came to.
-pub came : {c : BuildCall} {s : Step Building} {t : Parts} {m : Lent} {x : Work} {fwd bwd : ℕ} (b : Building) → s ≡ went b → At c b t m x fwd bwd →
-    Came c s t m (Went x fwd bwd)
-came {x = x} {fwd} {bwd} b e at =
+pub came : {c : BuildCall} {s : Step Building} {t : Parts} {m : Lent} {x : Ranked} (b : Building) → s ≡ went b → At c b t m x.work x.fwd x.bwd →
+    Came c s t m (Ok x)
+came {x = x} b e at =
     record {
-      came =
-          λ x' fwd' bwd' h.
-          let p : x' ≡ x = cc in
-          let q : fwd' ≡ fwd = cc in
-          let r : bwd' ≡ bwd = cc in
-          (b, e, rw (p, q, r) at);
-      no = λ k h. absurd (let z : ◌≡◌ {A = ℕ} 0 1 = cc in omega arith);
+      came = λ x' h. let p : x' ≡ x = cc in (b, e, rw p at);
+      no = λ k h. absurd (cc);
     }
 
-pub stopped : {c : BuildCall} {s : Step Building} {t : Parts} {m : Lent} {k : ℕ} → s ≡ refused k → Came c s t m (Refused k)
-stopped {k = k} e =
+pub stopped : {c : BuildCall} {s : Step Building} {t : Parts} {m : Lent} {r : Refusal} → s ≡ refused (number_of r) → Came c s t m (Err r)
+stopped {r = r} e =
     record {
-      came = λ x fwd bwd h. absurd (let z : ◌≡◌ {A = ℕ} 0 1 = cc in omega arith);
-      no = λ k' h. let q : k' ≡ k = cc in rw q e;
+      came = λ x h. absurd (cc);
+      no = λ r' h. let q : r' ≡ r = cc in rw q e;
     }
 
 -- one level more
@@ -226,11 +223,11 @@ module _ {g : Given} {b : Building} {vs : List ℕ} {limit pool r v : ℕ} {t : 
     more_in = omega (arith, p.at.bwd_count.is, in_count)
 
     -- refusal 11
-    pub full_forward : {t' : Parts} {m' : Lent} → length t.forward.entries.bases - fwd < out → Came c (rank_step c v b) t' m' (Refused 11)
+    pub full_forward : {t' : Parts} {m' : Lent} → length t.forward.entries.bases - fwd < out → Came c (rank_step c v b) t' m' (Err Entries)
     full_forward h = stopped (short_forward c v b (omega (arith, more_out, forward_long, forward_within)))
 
     pub full_backward : {t' : Parts} {m' : Lent} → out ≤ length t.forward.entries.bases - fwd → length t.backward.entries.bases - bwd < into →
-        Came c (rank_step c v b) t' m' (Refused 11)
+        Came c (rank_step c v b) t' m' (Err Entries)
     full_backward f h =
         stopped
         (short_backward c v b (omega (arith, more_out, forward_long, forward_within)) (omega (arith, more_in, backward_long, backward_within)))
@@ -296,10 +293,10 @@ module _ {g : Given} {b : Building} {vs : List ℕ} {limit pool r v : ℕ} {t : 
       enough_in : more c v b backward ≤ room g.lent.backward
       enough_in = omega (arith, more_in, backward_long, backward_within)
 
-      pub step_stopped : {t'' : Parts} {m'' : Lent} {w : Contracted} → Contracts m m'' pool x v limit w → (k : ℕ) → w ≡ contracted_refused k →
-          Came c (rank_step c v b) t'' m'' (Refused k)
-      step_stopped contracts k e =
-          stopped (step_stops c v b enough_out enough_in k ((contracts g.nodes b.graph contractible).no k e))
+      pub step_stopped : {t'' : Parts} {m'' : Lent} {w : Result Work Refusal} → Contracts m m'' pool x v limit w → (e : Refusal) → w ≡ Err e →
+          Came c (rank_step c v b) t'' m'' (Err e)
+      step_stopped contracts e is =
+          stopped (step_stops c v b enough_out enough_in (number_of e) ((contracts g.nodes b.graph contractible).no e is))
 
       module _ {t' : Parts}
           (laid_out : Lays m.arcs m.weights 0 (get_or m.nodes (4 * v) 0) v r fwd t.forward t'.forward)
@@ -315,8 +312,8 @@ module _ {g : Given} {b : Building} {vs : List ℕ} {limit pool r v : ℕ} {t : 
             in
             λ i. parts (f i) (k i)
 
-        pub step_came : {m' : Lent} {w : Contracted} → Contracts m m' pool x v limit w → (y : Work) → w ≡ contracted_went y →
-            Came c (rank_step c v b) t' m' (Went y (fwd + out) (bwd + into))
+        pub step_came : {m' : Lent} {w : Result Work Refusal} → Contracts m m' pool x v limit w → (y : Work) → w ≡ Ok y →
+            Came c (rank_step c v b) t' m' (Ok (record { work = y; fwd = fwd + out; bwd = bwd + into }))
         step_came contracts y e =
             let done = (contracts g.nodes b.graph contractible).came y e in
             let long : length (with_level b.levels v b.graph) ≡ length b.levels + 1 = length-append b.levels (level ∷ []) in

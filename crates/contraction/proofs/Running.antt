@@ -16,6 +16,9 @@ use Rattle.rules.proofs.Ranges.{distinct_decides}
 use Rattle.rules.proofs.Ranks.{rank_stepped, level_of}
 use Rattle.build_laws.proofs.Runs.{step_ok}
 use Rattle.build_laws.proofs.Starts.{first_run}
+use Rattle.std.specs.Prelude.{Result, Ok, Err}
+use Rattle.rules.specs.declared.Refusal.{Refusal}
+use Rattle.rules.specs.Refused.{number_of}
 use Rattle.lists.specs.Memory.{memory}
 use Rattle.graph.specs.declared.preparation_graph.Pool.{Pool}
 use Rattle.graph.specs.Stands.{Stands}
@@ -26,28 +29,9 @@ use Rattle.search.specs.Searching.{Lent, lent}
 use Rattle.node_contractor.specs.declared.Work.{Work}
 use Rattle.entries.specs.Laid.{laid_part, four_over, begun_of, begun}
 use Rattle.contraction.specs.declared.Ranked.{Ranked}
-use Rattle.contraction.specs.declared.Ranked.TheVariants.{Went, Refused}
 use Rattle.contraction.specs.Ranks.{Given, call, Parts, laid_parts, At}
 use Rattle.contraction.specs.Promises.{Accepted, Run, Came, Stepping, first, Starting, Accepting}
 use Rattle.contraction.proofs.Ranking.{came}
-
--- every slice is as long as it was
-pub record SameLengths (t : Parts) (m : Lent) (t₀ : Parts) (m₀ : Lent) : Type 0 where
-  pub fwd_starts : length t.forward.starts ≡ length t₀.forward.starts
-  pub fwd_bases : length t.forward.entries.bases ≡ length t₀.forward.entries.bases
-  pub fwd_neighbours : length t.forward.entries.neighbours ≡ length t₀.forward.entries.neighbours
-  pub fwd_weights : length t.forward.entries.weights ≡ length t₀.forward.entries.weights
-  pub fwd_ins : length t.forward.entries.centres ≡ length t₀.forward.entries.centres
-  pub bwd_starts : length t.backward.starts ≡ length t₀.backward.starts
-  pub bwd_bases : length t.backward.entries.bases ≡ length t₀.backward.entries.bases
-  pub bwd_neighbours : length t.backward.entries.neighbours ≡ length t₀.backward.entries.neighbours
-  pub bwd_weights : length t.backward.entries.weights ≡ length t₀.backward.entries.weights
-  pub bwd_ins : length t.backward.entries.centres ≡ length t₀.backward.entries.centres
-  pub arcs : length m.arcs ≡ length m₀.arcs
-  pub weights : length m.weights ≡ length m₀.weights
-  pub nodes : length m.nodes ≡ length m₀.nodes
-  pub labels : length m.labels ≡ length m₀.labels
-  pub heap : length m.heap ≡ length m₀.heap
 
 -- what was done and what is left of the order come to the whole
 pub record Running (g : Given) (limit pool r : ℕ) (t : Parts) (m : Lent) (x : Work) (fwd bwd : ℕ) : Type 0 where
@@ -86,17 +70,17 @@ module _ {g : Given} {limit pool r : ℕ} {t : Parts} {m : Lent} {x : Work} {fwd
     pub stepping : Stepping g y.building (drop (suc r) g.order) limit pool r v t m x fwd bwd
     stepping = record { ok = y.ok; run = next_run; rank = y.rank; at = y.at }
 
-    module _ {t' : Parts} {m' : Lent} {w : Ranked} (step : Came c (rank_step c v y.building) t' m' w) where
-      pub gives_up : (k : ℕ) → w ≡ Refused k → rank_steps c g.order (first g) ≡ refused k
+    module _ {t' : Parts} {m' : Lent} {w : Result Ranked Refusal} (step : Came c (rank_step c v y.building) t' m' w) where
+      pub gives_up : (e : Refusal) → w ≡ Err e → rank_steps c g.order (first g) ≡ refused (number_of e)
       unfolding rank_steps and_then
-      gives_up k e =
-          let e' = step.no k e in
+      gives_up e is =
+          let e' = step.no e is in
           sym y.same ∙ ap (λ vs. rank_steps c vs y.building) next ∙ rw (e', rank_steps)
 
-      pub goes_on : (x' : Work) (fwd' bwd' : ℕ) → w ≡ Went x' fwd' bwd' → Running g limit pool (r + 1) t' m' x' fwd' bwd'
+      pub goes_on : (x' : Ranked) → w ≡ Ok x' → Running g limit pool (r + 1) t' m' x'.work x'.fwd x'.bwd
       unfolding rank_steps and_then
-      goes_on x' fwd' bwd' e =
-          let k = step.came x' fwd' bwd' e in
+      goes_on x' e =
+          let k = step.came x' e in
           let stepped = rank_stepped c v y.building k.0 k.1 in
           rw (add-one r)
           (record {
@@ -113,7 +97,7 @@ module _ {g : Given} {limit pool r : ℕ} {t : Parts} {m : Lent} {x : Work} {fwd
                 sym one ∙ sym (ap (λ vs. rank_steps c vs y.building) next) ∙ y.same;
           })
 
-  pub is_done : length g.order ≤ r → Came c (rank_steps c g.order (first g)) t m (Went x fwd bwd)
+  pub is_done : length g.order ≤ r → Came c (rank_steps c g.order (first g)) t m (Ok (record { work = x; fwd = fwd; bwd = bwd }))
   unfolding rank_steps
   is_done h =
       came y.building
@@ -130,10 +114,10 @@ module _ (g : Given) (limit pool : ℕ) where
   unfolding contraction from_links in_pool and_then
   took_in h = rw (le-leb (length (graph_of g.links)) pool h, contraction, from_links, in_pool)
 
-pub came_as : {c : BuildCall} {s s' : Step Building} {t : Parts} {m : Lent} {w : Ranked} → s' ≡ s → Came c s t m w → Came c s' t m w
+pub came_as : {c : BuildCall} {s s' : Step Building} {t : Parts} {m : Lent} {w : Result Ranked Refusal} → s' ≡ s → Came c s t m w → Came c s' t m w
 came_as e k =
     record {
-      came = λ x fwd bwd h. let b = k.came x fwd bwd h in (b.0, e ∙ b.1, b.2);
+      came = λ x h. let b = k.came x h in (b.0, e ∙ b.1, b.2);
       no = λ n h. e ∙ k.no n h;
     }
 

@@ -11,14 +11,16 @@ ghost use Rattle.contraction.specs.Ranks.{Given, given, parts};
 ghost use Rattle.contraction.specs.Promises.{Stepping, Steps, Starting, Starts, Accepting, Comes};
 
 use entries::{lay_rank, list_length};
-use graph::preparation_graph::Added;
-use node_contractor::{Contracted, Work};
+use graph::preparation_graph::from_input_graph;
+use node_contractor::{Work, contract_node};
+use rules::Refusal;
 
-// What a step comes to: the entries so far of either table, or a refusal, whose number this is.
+// What goes with the slices over the ranks: the work, and the entries so far of either table.
 #[derive(Clone, Copy)]
-pub enum Ranked {
-    Went(Work, usize, usize),
-    Refused(u32),
+pub struct Ranked {
+    pub work: Work,
+    pub fwd: usize,
+    pub bwd: usize,
 }
 
 // Rules 2 to 4 for the node of a rank.
@@ -27,9 +29,7 @@ fn rank_step(
     limit: u32,
     r: usize,
     v: u32,
-    work: Work,
-    fwd: usize,
-    bwd: usize,
+    ranked: Ranked,
     fwd_starts: &mut [u32],
     fwd_bases: &mut [u32],
     fwd_neighbours: &mut [u32],
@@ -45,28 +45,29 @@ fn rank_step(
     nodes: &mut [u32],
     labels: &mut [u64],
     heap: &mut [u64],
-) -> Ranked
+) -> Result<Ranked, Refusal>
     requires { (g : Given) × (b : Building) × (vs : List ℕ) × Stepping g b vs limit pool r v
         (parts (part fwd_starts.old (four fwd_bases.old fwd_neighbours.old fwd_weights.old fwd_ins.old))
         (part bwd_starts.old (four bwd_bases.old bwd_neighbours.old bwd_weights.old bwd_ins.old)))
-        (lent arcs.old weights.old nodes.old labels.old heap.old) work fwd bwd }
+        (lent arcs.old weights.old nodes.old labels.old heap.old) ranked.work ranked.fwd ranked.bwd }
     ensures { Steps limit pool r v
         (parts (part fwd_starts.old (four fwd_bases.old fwd_neighbours.old fwd_weights.old fwd_ins.old))
         (part bwd_starts.old (four bwd_bases.old bwd_neighbours.old bwd_weights.old bwd_ins.old)))
-        (lent arcs.old weights.old nodes.old labels.old heap.old) work fwd bwd
+        (lent arcs.old weights.old nodes.old labels.old heap.old) ranked.work ranked.fwd ranked.bwd
         (parts (part fwd_starts.new (four fwd_bases.new fwd_neighbours.new fwd_weights.new fwd_ins.new))
         (part bwd_starts.new (four bwd_bases.new bwd_neighbours.new bwd_weights.new bwd_ins.new)))
         (lent arcs.new weights.new nodes.new labels.new heap.new) result }
 {
+    let Ranked { work, fwd, bwd } = ranked;
     let first_out = nodes[4 * v as usize];
     let first_in = nodes[4 * v as usize + 2];
     let more_fwd = list_length(arcs, 0, first_out);
     let more_bwd = list_length(arcs, 1, first_in);
     if fwd_bases.len() - fwd < more_fwd {
-        return Ranked::Refused(11);
+        return Err(Refusal::Entries);
     }
     if bwd_bases.len() - bwd < more_bwd {
-        return Ranked::Refused(11);
+        return Err(Refusal::Entries);
     }
     lay_rank(
         arcs,
@@ -96,13 +97,12 @@ fn rank_step(
         bwd_weights,
         bwd_ins,
     );
-    let step = node_contractor::contract_node(
-        arcs, weights, nodes, labels, heap, pool, work, v, limit,
-    );
-    match step {
-        Contracted::Went(next) => Ranked::Went(next, fwd + more_fwd, bwd + more_bwd),
-        Contracted::Refused(number) => Ranked::Refused(number),
-    }
+    let work = contract_node(arcs, weights, nodes, labels, heap, pool, work, v, limit)?;
+    Ok(Ranked {
+        work,
+        fwd: fwd + more_fwd,
+        bwd: bwd + more_bwd,
+    })
 }
 
 // Each node of the order in its turn.
@@ -126,7 +126,7 @@ fn run_contraction_with_order(
     nodes: &mut [u32],
     labels: &mut [u64],
     heap: &mut [u64],
-) -> Ranked
+) -> Result<Ranked, Refusal>
     requires { (n : ℕ) × (l : Links) × (h : Hierarchy) × (s : List ℕ) × Starting (given n l order.now h s) limit pool
         (parts (part fwd_starts.old (four fwd_bases.old fwd_neighbours.old fwd_weights.old fwd_ins.old))
         (part bwd_starts.old (four bwd_bases.old bwd_neighbours.old bwd_weights.old bwd_ins.old)))
@@ -139,19 +139,18 @@ fn run_contraction_with_order(
         (part bwd_starts.new (four bwd_bases.new bwd_neighbours.new bwd_weights.new bwd_ins.new)))
         (lent arcs.new weights.new nodes.new labels.new heap.new) result }
 {
-    let mut work = work;
-    let mut fwd = 0;
-    let mut bwd = 0;
-    let mut r = 0;
-    while r < order.len() {
-        let step = rank_step(
+    let mut ranked = Ranked {
+        work,
+        fwd: 0,
+        bwd: 0,
+    };
+    for (r, v) in order.iter().enumerate() {
+        ranked = rank_step(
             pool,
             limit,
             r,
-            order[r],
-            work,
-            fwd,
-            bwd,
+            *v,
+            ranked,
             fwd_starts,
             fwd_bases,
             fwd_neighbours,
@@ -167,20 +166,9 @@ fn run_contraction_with_order(
             nodes,
             labels,
             heap,
-        );
-        match step {
-            Ranked::Went(next, f, b) => {
-                work = next;
-                fwd = f;
-                bwd = b;
-            }
-            Ranked::Refused(number) => {
-                return Ranked::Refused(number);
-            }
-        }
-        r += 1;
+        )?;
     }
-    Ranked::Went(work, fwd, bwd)
+    Ok(ranked)
 }
 
 // Rules 1 to 4.
@@ -207,7 +195,7 @@ pub fn contraction(
     nodes: &mut [u32],
     labels: &mut [u64],
     heap: &mut [u64],
-) -> Ranked
+) -> Result<Ranked, Refusal>
     requires { (h : Hierarchy) × (s : List ℕ) × Accepting (given n (links tails.now heads.now link_weights.now) order.now h s) limit pool
         (parts (part fwd_starts.old (four fwd_bases.old fwd_neighbours.old fwd_weights.old fwd_ins.old))
         (part bwd_starts.old (four bwd_bases.old bwd_neighbours.old bwd_weights.old bwd_ins.old)))
@@ -220,19 +208,7 @@ pub fn contraction(
         (part bwd_starts.new (four bwd_bases.new bwd_neighbours.new bwd_weights.new bwd_ins.new)))
         (lent arcs.new weights.new nodes.new labels.new heap.new) result }
 {
-    let added = graph::preparation_graph::from_input_graph(
-        arcs,
-        weights,
-        nodes,
-        pool,
-        n,
-        tails,
-        heads,
-        link_weights,
-    );
-    let Added::Arc(state) = added else {
-        return Ranked::Refused(10);
-    };
+    let state = from_input_graph(arcs, weights, nodes, pool, n, tails, heads, link_weights)?;
     let search = search::witness_search::new(labels, n);
     run_contraction_with_order(
         pool,

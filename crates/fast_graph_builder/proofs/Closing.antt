@@ -7,12 +7,13 @@ use Rattle.rules.specs.Columns.{Hierarchy, Table, Entry, Side, forward, backward
 use Rattle.rules.specs.Refusals.{BuildCall}
 use Rattle.rules.specs.Build.{Step, went, Level, Raw, raws, Building, finish, finished, starts_of, laid, finish_contraction, built}
 use Rattle.build_laws.proofs.BuiltTables.{finish_keeps}
+use Rattle.std.specs.Prelude.{Result, Ok, Err}
+use Rattle.rules.specs.declared.Refusal.{Refusal}
+use Rattle.rules.specs.Refused.{number_of}
 use Rattle.search.specs.Searching.{Lent}
-use Rattle.node_contractor.specs.declared.Work.{Work}
 use Rattle.entries.specs.Laid.{part, four, laid_part, four_over}
 use Rattle.marks.specs.Tables.{table_of, hierarchy}
 use Rattle.contraction.specs.declared.Ranked.{Ranked}
-use Rattle.contraction.specs.declared.Ranked.TheVariants.{Went, Refused}
 use Rattle.contraction.specs.Ranks.{parts, laid_parts, At}
 use Rattle.finish.specs.Promises.{Whole, Ending, Ended}
 use Rattle.fast_graph_builder.specs.Promises.{answer, Closing}
@@ -49,22 +50,22 @@ laid_table s ls t p b n w i o =
     (i k)
     (o k)
 
-module _ {c : BuildCall} {s : Step Building} {m : Lent} {n : ℕ} {order : List ℕ} {ranked : Ranked} {ranks fs fb fn fw fi fo bs bb bn bw bi bo : List ℕ}
+module _ {c : BuildCall} {s : Step Building} {m : Lent} {n : ℕ} {order : List ℕ} {ranked : Result Ranked Refusal} {ranks fs fb fn fw fi fo bs bb bn bw bi bo : List ℕ}
     (p : Closing c s m n order ranked (hierarchy ranks (table_of fs fb fn fw fi fo) (table_of bs bb bn bw bi bo))) where
   -- it was refused
-  pub closed_refused : (k : ℕ) → ranked ≡ Refused k → {h : Hierarchy} → h ≡ marked (hierarchy ranks (table_of fs fb fn fw fi fo) (table_of bs bb bn bw bi bo)) →
-      answer k h ≡ built c s
+  pub closed_refused : (r : Refusal) → ranked ≡ Err r → {h : Hierarchy} → h ≡ marked (hierarchy ranks (table_of fs fb fn fw fi fo) (table_of bs bb bn bw bi bo)) →
+      answer (number_of r) h ≡ built c s
   unfolding built
-  closed_refused k e h_is = rw (p.came.no k e) (λ i. answer k ((h_is ∙ p.marks) i))
+  closed_refused r e h_is = rw (p.came.no r e) (λ i. answer (number_of r) ((h_is ∙ p.marks) i))
 
-  module _ (x : Work) (fwd bwd : ℕ) (e : ranked ≡ Went x fwd bwd) where
-    pub to : (b : Building) × (s ≡ went b) × At c b (parts (part fs (four fb fn fw fi)) (part bs (four bb bn bw bi))) m x fwd bwd
-    to = p.came.came x fwd bwd e
+  module _ (x : Ranked) (e : ranked ≡ Ok x) where
+    pub to : (b : Building) × (s ≡ went b) × At c b (parts (part fs (four fb fn fw fi)) (part bs (four bb bn bw bi))) m x.work x.fwd x.bwd
+    to = p.came.came x e
 
     whole : Whole c to.0
     whole = record { ok = p.ok.build; weights = p.ok.weights; went_to = sym p.steps ∙ to.1 }
 
-    pub ending : Ending c to.0 n order fwd bwd ranks fs fb fn fi fo bs bb bn bi bo
+    pub ending : Ending c to.0 n order x.fwd x.bwd ranks fs fb fn fi fo bs bb bn bi bo
     unfolding laid_parts laid_part four_over
     ending =
         let at = to.2 in
@@ -96,12 +97,12 @@ module _ {c : BuildCall} {s : Step Building} {m : Lent} {n : ℕ} {order : List 
     bwd_weights_laid = ap (λ t. t.backward.entries.weights) to.2.laid
 
     -- it was built
-    pub closed_went : {ranks' fs' fi' fo' bs' bi' bo' : List ℕ} → ((c : BuildCall) (b : Building) → Ending c b n order fwd bwd ranks fs fb fn fi fo bs bb bn bi bo →
+    pub closed_went : {ranks' fs' fi' fo' bs' bi' bo' : List ℕ} → ((c : BuildCall) (b : Building) → Ending c b n order x.fwd x.bwd ranks fs fb fn fi fo bs bb bn bi bo →
         Ended c b ranks' fs' fi' fo' bs' bi' bo') →
         answer 0 (hierarchy ranks' (table_of fs' fb fn fw fi' fo') (table_of bs' bb bn bw bi' bo')) ≡ built c s
     unfolding built finish_contraction
     closed_went ends =
-        let x = ends c to.0 ending in
-        let f = laid_table forward to.0.levels c.lent.forward x.fwd_starts ending.fwd_bases ending.fwd_neighbours fwd_weights_laid x.fwd_ins x.fwd_outs in
-        let g = laid_table backward to.0.levels c.lent.backward x.bwd_starts ending.bwd_bases ending.bwd_neighbours bwd_weights_laid x.bwd_ins x.bwd_outs in
-        rw to.1 (λ i. answer 0 (hierarchy (x.ranks_are i) (f i) (g i)))
+        let y = ends c to.0 ending in
+        let f = laid_table forward to.0.levels c.lent.forward y.fwd_starts ending.fwd_bases ending.fwd_neighbours fwd_weights_laid y.fwd_ins y.fwd_outs in
+        let g = laid_table backward to.0.levels c.lent.backward y.bwd_starts ending.bwd_bases ending.bwd_neighbours bwd_weights_laid y.bwd_ins y.bwd_outs in
+        rw to.1 (λ i. answer 0 (hierarchy (y.ranks_are i) (f i) (g i)))

@@ -4,6 +4,7 @@
 ghost use Rattle.std.specs.Prelude.{◌≡◌, ◌≤◌};
 ghost use Rattle.rules.specs.Refusals.{BuildCall};
 ghost use Rattle.rules.specs.Build.{Step, Building, built, build};
+ghost use Rattle.rules.specs.Refused.{code};
 ghost use Rattle.input_graph.specs.Given.{links};
 ghost use Rattle.search.specs.Searching.{Lent};
 ghost use Rattle.marks.specs.Tables.{table_of, hierarchy};
@@ -11,6 +12,7 @@ ghost use Rattle.contraction.specs.Ranks.{given, call};
 ghost use Rattle.fast_graph_builder.specs.Promises.{answer, run, lengths, Inside, Closing, Passed};
 
 use contraction::Ranked;
+use rules::Refusal;
 
 // A pool above what n nodes can ever use is as good as that.
 fn pool_inside(n: usize, pool: u64) -> u32
@@ -31,7 +33,7 @@ fn pool_inside(n: usize, pool: u64) -> u32
 fn close(
     n: usize,
     order: &[u32],
-    ranked: Ranked,
+    ranked: Result<Ranked, Refusal>,
     ranks: &mut [u32],
     fwd_starts: &mut [u32],
     fwd_bases: &mut [u32],
@@ -45,7 +47,7 @@ fn close(
     bwd_weights: &mut [u64],
     bwd_ins: &mut [u32],
     bwd_outs: &mut [u32],
-) -> u32
+) -> Result<(), Refusal>
     requires { (c : BuildCall) × (s : Step Building) × (m : Lent) × Closing c s m n order.now ranked
         (hierarchy ranks.old
         (table_of fwd_starts.old fwd_bases.old fwd_neighbours.old fwd_weights.old fwd_ins.old fwd_outs.old)
@@ -54,17 +56,17 @@ fn close(
         (hierarchy ranks.old
         (table_of fwd_starts.old fwd_bases.old fwd_neighbours.old fwd_weights.old fwd_ins.old fwd_outs.old)
         (table_of bwd_starts.old bwd_bases.old bwd_neighbours.old bwd_weights.old bwd_ins.old bwd_outs.old)) →
-        answer result (hierarchy ranks.new
+        answer (code result) (hierarchy ranks.new
         (table_of fwd_starts.new fwd_bases.new fwd_neighbours.new fwd_weights.new fwd_ins.new fwd_outs.new)
         (table_of bwd_starts.new bwd_bases.new bwd_neighbours.new bwd_weights.new bwd_ins.new bwd_outs.new)) ≡ built c s }
 {
     match ranked {
-        Ranked::Went(_, fwd, bwd) => {
+        Ok(ranked) => {
             finish::finish_contraction(
                 n,
                 order,
-                fwd,
-                bwd,
+                ranked.fwd,
+                ranked.bwd,
                 ranks,
                 fwd_starts,
                 fwd_bases,
@@ -77,9 +79,9 @@ fn close(
                 bwd_ins,
                 bwd_outs,
             );
-            0
+            Ok(())
         }
-        Ranked::Refused(number) => {
+        Err(refusal) => {
             marks::mark_all(
                 ranks,
                 fwd_starts,
@@ -95,7 +97,7 @@ fn close(
                 bwd_ins,
                 bwd_outs,
             );
-            number
+            Err(refusal)
         }
     }
 }
@@ -127,12 +129,12 @@ fn build_checked(
     nodes: &mut [u32],
     labels: &mut [u64],
     heap: &mut [u64],
-) -> u32
+) -> Result<(), Refusal>
     requires { Passed (call (given n (links tails.now heads.now link_weights.now) order.now (hierarchy ranks.old
         (table_of fwd_starts.old fwd_bases.old fwd_neighbours.old fwd_weights.old fwd_ins.old fwd_outs.old)
         (table_of bwd_starts.old bwd_bases.old bwd_neighbours.old bwd_weights.old bwd_ins.old bwd_outs.old))
         (lengths arcs.old weights.old nodes.old labels.old heap.old)) limit pool) }
-    ensures { answer result (hierarchy ranks.new
+    ensures { answer (code result) (hierarchy ranks.new
         (table_of fwd_starts.new fwd_bases.new fwd_neighbours.new fwd_weights.new fwd_ins.new fwd_outs.new)
         (table_of bwd_starts.new bwd_bases.new bwd_neighbours.new bwd_weights.new bwd_ins.new bwd_outs.new)) ≡
         run (call (given n (links tails.now heads.now link_weights.now) order.now (hierarchy ranks.old
@@ -185,7 +187,7 @@ fn build_checked(
     )
 }
 
-// Builds a hierarchy in the given order. Whatever is handed in, the answer is a refusal's number, or 0 and a hierarchy.
+// Builds a hierarchy in the given order. Whatever is handed in, the answer is a refusal, or a hierarchy.
 pub fn build_with_order(
     n: usize,
     tails: &[u32],
@@ -212,8 +214,8 @@ pub fn build_with_order(
     nodes: &mut [u32],
     labels: &mut [u64],
     heap: &mut [u64],
-) -> u32
-    ensures { answer result (hierarchy ranks.new
+) -> Result<(), Refusal>
+    ensures { answer (code result) (hierarchy ranks.new
         (table_of fwd_starts.new fwd_bases.new fwd_neighbours.new fwd_weights.new fwd_ins.new fwd_outs.new)
         (table_of bwd_starts.new bwd_bases.new bwd_neighbours.new bwd_weights.new bwd_ins.new bwd_outs.new)) ≡
         build (call (given n (links tails.now heads.now link_weights.now) order.now (hierarchy ranks.old
@@ -221,10 +223,7 @@ pub fn build_with_order(
         (table_of bwd_starts.old bwd_bases.old bwd_neighbours.old bwd_weights.old bwd_ins.old bwd_outs.old))
         (lengths arcs.old weights.old nodes.old labels.old heap.old)) limit pool) }
 {
-    let number = refusals::refusal(n, tails, heads, link_weights, order);
-    if number != 0 {
-        return number;
-    }
+    refusals::refusal(n, tails, heads, link_weights, order)?;
     if refusals::lent_short(
         n,
         pool,
@@ -247,7 +246,7 @@ pub fn build_with_order(
         labels.len(),
         heap.len(),
     ) {
-        return 9;
+        return Err(Refusal::Lent);
     }
     build_checked(
         n,

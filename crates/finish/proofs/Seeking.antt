@@ -132,15 +132,6 @@ over_beyond lent values k h =
     ap (λ i. get_or (values ++ drop (length values) lent) i 0) (sym more) ∙ get_or-append-add values (drop (length values) lent) (k - length values) 0 ∙
     get_or-drop (length values) lent (k - length values) 0 ∙ ap (λ i. get_or lent i 0) more
 
--- one entry more that is not the one
-pub one_passed : (neighbours : List ℕ) (a u e : ℕ) → ((k : ℕ) → a ≤ k → k < e → get_or neighbours k 0 ≡ u → ⊥) → (get_or neighbours e 0 ≡ u → ⊥) →
-    (k : ℕ) → a ≤ k → k < e + 1 → get_or neighbours k 0 ≡ u → ⊥
-one_passed neighbours a u e before off k low h q =
-    elim (dec_lt k e) [
-      | yes y ↦ before k low y q
-      | no n ↦ let same : e ≡ k = omega arith in off (ap (λ i. get_or neighbours i 0) same ∙ q)
-    ]
-
 -- The order's inverse, written rank by rank.
 pub record Inverted (n : ℕ) (order ranks₀ ranks : List ℕ) (r : ℕ) : Type 0 where
   pub written : (j : ℕ) → j < r → get_or ranks (get_or order j 0) 0 ≡ j

@@ -14,15 +14,14 @@ fn get_edge_id(starts: &[u32], neighbours: &[u32], r: u32, u: u32) -> u32
     requires { Seekable starts.now (length neighbours.now) r }
     ensures { Sought starts.now neighbours.now r u result }
 {
-    let mut e = starts[r as usize];
+    let begin = starts[r as usize];
     let end = starts[r as usize + 1];
-    while e < end {
+    for e in begin..end {
         if neighbours[e as usize] == u {
             return e;
         }
-        e += 1;
     }
-    e
+    end.max(begin)
 }
 
 // The two numbers of an entry.
@@ -80,8 +79,7 @@ fn finish_table(
         ranks.now fwd_starts.now fwd_neighbours.now bwd_starts.now bwd_neighbours.now
         tails.now heads.now ins.old outs.old ins.new outs.new }
 {
-    let mut e = 0;
-    while e < count {
+    for e in 0..count {
         let numbers = open_entry(
             ins[e],
             tails[e],
@@ -94,7 +92,6 @@ fn finish_table(
         );
         ins[e] = numbers.into;
         outs[e] = numbers.out;
-        e += 1;
     }
 }
 
@@ -103,10 +100,8 @@ fn write_ranks(order: &[u32], ranks: &mut [u32])
     requires { (n : ℕ) × Inverse n order.now ranks.old }
     ensures { Ranks order.now ranks.old ranks.new }
 {
-    let mut r = 0;
-    while r < order.len() {
-        ranks[order[r] as usize] = r as u32;
-        r += 1;
+    for (r, node) in order.iter().enumerate() {
+        ranks[*node as usize] = r as u32;
     }
 }
 

@@ -102,12 +102,14 @@ fn after_build(
     requires { Closed input.now «at» g.now.num_nodes (code outcome) (hierarchy_of g.now) }
     ensures { Wrote out.old 0 (after input.now «at» g.now.num_nodes (answer (code outcome) (hierarchy_of g.now))) result out.new }
 {
-    if let Err(refusal) = outcome {
-        return refused_line(out, 0, refusal.into());
+    match outcome {
+        Ok(()) => {
+            let n = g.num_nodes;
+            let end = built_line(out, 0, g.fwd.starts[n], g.bwd.starts[n]);
+            answer_all(input, at, g, out, end)
+        }
+        Err(refusal) => refused_line(out, 0, refusal.into()),
     }
-    let n = g.num_nodes;
-    let end = built_line(out, 0, g.fwd.starts[n], g.bwd.starts[n]);
-    answer_all(input, at, g, out, end)
 }
 
 // Room for 32 nodes: 992 live arcs, and half as many entries a table.

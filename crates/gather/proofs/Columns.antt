@@ -12,7 +12,7 @@ use Rattle.records.specs.Kinds.{whole_kind}
 use Rattle.records.specs.Onward.{onward, link_from}
 use Rattle.records.proofs.Onward.{first_record, link_record, order_record, whole_within, from_start}
 use Rattle.gather.specs.declared.Gathered.{Gathered}
-use Rattle.gather.specs.Gathering.{Rooms, Gathering, Stuck, More, Begun, Done, LinkPut}
+use Rattle.gather.specs.Gathering.{Rooms, Gathering, More, Begun, LinkPut}
 
 abbrev pub state : ℕ → ℕ → ℕ → Gathered
 state links orders at = record { links = links; orders = orders; at = at }
@@ -105,17 +105,15 @@ module _ (input : List ℕ) (g : Gathered) (tails heads weights order : List ℕ
         }
 
 -- What holds between records; columns keep their lengths.
-pub record Going (input tails₀ heads₀ weights₀ order₀ : List ℕ) (g : Gathered) (before : ℕ) (tails heads weights order : List ℕ) : Type 0 where
+pub record Going (input tails₀ heads₀ weights₀ order₀ : List ℕ) (g : Gathered) (tails heads weights order : List ℕ) : Type 0 where
   pub gathered : Gathering input g tails heads weights order
-  pub behind : before ≤ g.at
-  pub stuck : g.at ≤ before → Stuck input g
   pub tails_long : length tails ≡ length tails₀
   pub heads_long : length heads ≡ length heads₀
   pub weights_long : length weights ≡ length weights₀
   pub order_long : length order ≡ length order₀
 
 module _ (input tails₀ heads₀ weights₀ order₀ : List ℕ) (rooms : Rooms input tails₀ heads₀ weights₀ order₀) where
-  pub begins : Begun input → Going input tails₀ heads₀ weights₀ order₀ (state 0 0 5) 0 tails₀ heads₀ weights₀ order₀
+  pub begins : Begun input → Going input tails₀ heads₀ weights₀ order₀ (state 0 0 5) tails₀ heads₀ weights₀ order₀
   unfolding record_length
   begins b =
       record {
@@ -131,38 +129,8 @@ module _ (input tails₀ heads₀ weights₀ order₀ : List ℕ) (rooms : Rooms
               paid = omega arith;
               within = whole_within input 0 1 b.first 4 refl;
             };
-        behind = omega arith;
-        stuck = λ back. absurd (omega (arith, back));
         tails_long = refl;
         heads_long = refl;
         weights_long = refl;
         order_long = refl;
       }
-
-  module _ {g : Gathered} {before : ℕ} {tails heads weights order : List ℕ} (s : Going input tails₀ heads₀ weights₀ order₀ g before tails heads weights order) where
-    pub rooms_now : Rooms input tails heads weights order
-    rooms_now =
-        record {
-          small = rooms.small;
-          tails_room = omega (arith, rooms.tails_room, s.tails_long);
-          heads_room = omega (arith, rooms.heads_room, s.heads_long);
-          weights_room = omega (arith, rooms.weights_room, s.weights_long);
-          order_room = omega (arith, rooms.order_room, s.order_long);
-        }
-
-    pub goes_on : {r : Gathered} {tails' heads' weights' order' : List ℕ} → More input g r tails' heads' weights' order' →
-        length tails' ≡ length tails → length heads' ≡ length heads → length weights' ≡ length weights → length order' ≡ length order →
-        Going input tails₀ heads₀ weights₀ order₀ r g.at tails' heads' weights' order'
-    goes_on m a b c d =
-        record {
-          gathered = m.gathered;
-          behind = m.onward_to;
-          stuck = m.stuck;
-          tails_long = a ∙ s.tails_long;
-          heads_long = b ∙ s.heads_long;
-          weights_long = c ∙ s.weights_long;
-          order_long = d ∙ s.order_long;
-        }
-
-    pub all_gathered : g.at ≤ before → Done input g tails heads weights order
-    all_gathered back = record { gathered = s.gathered; stuck = s.stuck back }

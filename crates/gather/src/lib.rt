@@ -1,7 +1,7 @@
 // The records before the build: links and order entries, as far as they come in their sequence.
 #![tactic(auto)]
 
-ghost use Rattle.std.specs.Prelude.{◌+◌, ◌^◌, ◌<◌, length};
+ghost use Rattle.std.specs.Prelude.{◌+◌, ◌^◌, ◌<◌, length, MatchOption};
 ghost use Rattle.gather.specs.Gathering.{Rooms, Gathering, More, Begun, Done, LinkPut};
 
 use records::{kind_at, u16_at, u32_at};
@@ -14,6 +14,7 @@ pub struct Gathered {
     pub at: usize,
 }
 
+// The columns stay parameters of their own: two fields of a struct are not lent as `&mut` from behind one reference.
 fn put_link(
     input: &[u8],
     at: usize,
@@ -30,7 +31,7 @@ fn put_link(
     weights[k] = u32_at(input, at + 7);
 }
 
-// One record more, of kind 2 or 3; nothing where none stands there or it is misplaced.
+// One record more, of kind 2 or 3; `None` where none stands there or it is misplaced.
 fn gather_record(
     input: &[u8],
     g: Gathered,
@@ -38,9 +39,10 @@ fn gather_record(
     heads: &mut [u32],
     weights: &mut [u32],
     order: &mut [u32],
-) -> Gathered
+) -> Option<Gathered>
     requires { Rooms input.now tails.old heads.old weights.old order.old × Gathering input.now g tails.old heads.old weights.old order.old }
-    ensures { More input.now g result tails.new heads.new weights.new order.new }
+    ensures { MatchOption result (More input.now g g tails.new heads.new weights.new order.new)
+        (λ r. (g.at < r.at) × More input.now g r tails.new heads.new weights.new order.new) }
 {
     let at = g.at;
     let links = g.links;
@@ -50,24 +52,24 @@ fn gather_record(
         2 => {
             let late = orders != 0;
             if late {
-                return g;
+                return None;
             }
             put_link(input, at, links, tails, heads, weights);
-            Gathered {
+            Some(Gathered {
                 links: links + 1,
                 orders: 0,
                 at: at + 11,
-            }
+            })
         }
         3 => {
             order[orders] = u16_at(input, at + 3);
-            Gathered {
+            Some(Gathered {
                 links,
                 orders: orders + 1,
                 at: at + 5,
-            }
+            })
         }
-        0..=1 | 4..=255 => g,
+        0..=1 | 4..=255 => None,
     }
 }
 
@@ -87,10 +89,8 @@ pub fn gather(
         orders: 0,
         at: 5,
     };
-    let mut before = 0;
-    while before < g.at {
-        before = g.at;
-        g = gather_record(input, g, tails, heads, weights, order);
+    while let Some(more) = gather_record(input, g, tails, heads, weights, order) {
+        g = more;
     }
     g
 }

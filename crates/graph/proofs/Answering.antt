@@ -1,36 +1,30 @@
 -- The answers of `add_edge_or_shortcut` and `add_or_reduce_edge`.
-use mathlib.Core.Path.{◌≡◌, refl, sym}
+use mathlib.Core.Path.{◌≡◌, refl}
 use mathlib.Core.List.{List}
 use Prim.Native.Nat.{ℕ, ◌<◌}
-use native.Mathlib.Omega.{arith}
 use lib.ListN.{length}
 use Rattle.rules.specs.Graph.{Arc}
+use Rattle.std.specs.Prelude.{Result, Ok, Err}
+use Rattle.rules.specs.declared.Refusal.{Refusal}
+use Rattle.rules.specs.declared.Refusal.TheVariants.{Pool as no_place}
 use Rattle.graph.specs.declared.preparation_graph.Pool.{Pool}
-use Rattle.graph.specs.declared.preparation_graph.Added.{Added}
-use Rattle.graph.specs.declared.preparation_graph.Added.TheVariants.{Arc as Came, Full}
 use Rattle.lists.specs.Memory.{Memory}
 use Rattle.graph.specs.Stands.{Extends}
 use Rattle.graph.specs.Promises.{Addable, Same, Answers}
 
-came_same : (s t : Pool) → Came s ≡ Came t → s ≡ t
-came_same s t e = cc
-
-came_full : {A : Type 0} (s : Pool) → Came s ≡ Full → A
-came_full s e = let z : ◌≡◌ {A = ℕ} 0 1 = cc in absurd (omega arith)
-
 module _ {n pool : ℕ} {m m' : Memory} {w w' places : List ℕ} {h : List Arc} where
-  pub answers_came : {state : Pool} → Extends n pool m' w' state h places → Answers n pool m w m' w' places h (Came state)
+  pub answers_came : {state : Pool} → Extends n pool m' w' state h places → Answers n pool m w m' w' places h (Ok state)
   answers_came {state} there = record {
-    came = λ t e. rw (came_same state t e) at there;
-    full = λ e. came_full state e;
-    same = λ e. came_full state e;
+    came = λ t e. let same : state ≡ t = cc in rw same at there;
+    full = λ r e. absurd (cc);
+    same = λ r e. absurd (cc);
   }
 
-pub answers_full : {n pool : ℕ} {m : Memory} {w places : List ℕ} {h : List Arc} → pool < length h → Answers n pool m w m w places h Full
+pub answers_full : {n pool : ℕ} {m : Memory} {w places : List ℕ} {h : List Arc} → pool < length h → Answers n pool m w m w places h (Err no_place)
 answers_full more = record {
-  came = λ t e. came_full t (sym e);
-  full = λ _. more;
-  same = λ _. record { memory_same = refl; weights_same = refl };
+  came = λ t e. absurd (cc);
+  full = λ r e. (cc, more);
+  same = λ _ _. record { memory_same = refl; weights_same = refl };
 }
 
 -- the slices are as they were: what is added to them is the answer
@@ -42,10 +36,10 @@ module _ {n pool : ℕ} {m m' : Memory} {w w' : List ℕ} (same : Same m w m' w'
   pub still_addable : {state : Pool} {a : Arc} {g : List Arc} → Addable n pool m w state a g → Addable n pool m' w' state a g
   still_addable r = (still r).0
 
-  answers_moved : {f h : List Arc} {m'' : Memory} {w'' places : List ℕ} {r : Added} → f ≡ h → Answers n pool m' w' m'' w'' places h r → Answers n pool m w m'' w'' places f r
+  answers_moved : {f h : List Arc} {m'' : Memory} {w'' places : List ℕ} {r : Result Pool Refusal} → f ≡ h → Answers n pool m' w' m'' w'' places h r → Answers n pool m w m'' w'' places f r
   answers_moved {f} {h} {m''} {w''} {places} {r} e k = rw (e, ← same.memory_same, ← same.weights_same) k
 
-  pub answers_after : {state : Pool} {a : Arc} {g f h : List Arc} {m'' : Memory} {w'' : List ℕ} {r : Added} (x : Addable n pool m w state a g) → f ≡ h →
+  pub answers_after : {state : Pool} {a : Arc} {g f h : List Arc} {m'' : Memory} {w'' : List ℕ} {r : Result Pool Refusal} (x : Addable n pool m w state a g) → f ≡ h →
       Answers n pool m' w' m'' w'' (still_addable x).stands.ids h r → Answers n pool m w m'' w'' x.stands.ids f r
   unfolding still_addable
   answers_after x e k = rw (← (still x).1) (answers_moved e k)

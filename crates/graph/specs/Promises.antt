@@ -1,11 +1,11 @@
 -- What the functions ask and promise. `m` and `w` are the slices at entry, `m'` and `w'` at exit.
-use Rattle.std.specs.Prelude.{List, [], ◌∷◌, ◌++◌, Bool, true, false, not, ◌≡◌, ℕ, ◌*◌, ◌<◌, ◌≤◌, length}
+use Rattle.std.specs.Prelude.{List, [], ◌∷◌, ◌++◌, Bool, true, false, not, ◌≡◌, ℕ, ◌*◌, ◌<◌, ◌≤◌, length, Result, Ok, Err}
 use Rattle.rules.specs.Numbers.{invalid}
 use Rattle.rules.specs.Lists.{any, keep}
 use Rattle.rules.specs.Graph.{Arc, joins, add_or_reduce}
+use Rattle.rules.specs.declared.Refusal.{Refusal}
+use Rattle.rules.specs.declared.Refusal.TheVariants.{Pool as no_place}
 use Rattle.graph.specs.declared.preparation_graph.Pool.{Pool}
-use Rattle.graph.specs.declared.preparation_graph.Added.{Added}
-use Rattle.graph.specs.declared.preparation_graph.Added.TheVariants.{Arc as Came, Full}
 use Rattle.lists.specs.Memory.{Memory, touches}
 use Rattle.graph.specs.Stands.{Stands, Extends}
 
@@ -33,11 +33,11 @@ pub record Same (m : Memory) (w : List ℕ) (m' : Memory) (w' : List ℕ) : Type
   pub memory_same : m' ≡ m
   pub weights_same : w' ≡ w
 
--- an arc came, and the slices hold h, the live places staying; or h would exceed the pool, and they are as they were
-pub record Answers (n pool : ℕ) (m : Memory) (w : List ℕ) (m' : Memory) (w' : List ℕ) (places : List ℕ) (h : List Arc) (r : Added) : Type 0 where
-  pub came : (state : Pool) → r ≡ Came state → Extends n pool m' w' state h places
-  pub full : r ≡ Full → pool < length h
-  pub same : r ≡ Full → Same m w m' w'
+-- an arc came, and the slices hold h, the live places staying; or h would exceed the pool, which is told, and they are as they were
+pub record Answers (n pool : ℕ) (m : Memory) (w : List ℕ) (m' : Memory) (w' : List ℕ) (places : List ℕ) (h : List Arc) (r : Result Pool Refusal) : Type 0 where
+  pub came : (state : Pool) → r ≡ Ok state → Extends n pool m' w' state h places
+  pub full : (e : Refusal) → r ≡ Err e → (e ≡ no_place) × (pool < length h)
+  pub same : (e : Refusal) → r ≡ Err e → Same m w m' w'
 
 -- an arc of the same ends was there, and is reduced; or there was none, and the slices are as they were
 pub record Reduces (n pool : ℕ) (m : Memory) (w : List ℕ) (m' : Memory) (w' : List ℕ) (state : Pool) (places : List ℕ) (a : Arc) (g : List Arc) (r : Bool) : Type 0 where
@@ -73,7 +73,7 @@ pub record Spacious (n pool : ℕ) (m : Memory) (w : List ℕ) : Type 0 where
   pub weights_room : pool ≤ length w
   pub nodes_room : 4 * n ≤ length m.nodes
 
--- the slices hold g; or the pool is smaller
-pub record TookIn (n pool : ℕ) (m : Memory) (w : List ℕ) (g : List Arc) (r : Added) : Type 0 where
-  pub came : (state : Pool) → r ≡ Came state → Stands n pool m w state g
-  pub full : r ≡ Full → pool < length g
+-- the slices hold g; or the pool is smaller, which is told
+pub record TookIn (n pool : ℕ) (m : Memory) (w : List ℕ) (g : List Arc) (r : Result Pool Refusal) : Type 0 where
+  pub came : (state : Pool) → r ≡ Ok state → Stands n pool m w state g
+  pub full : (e : Refusal) → r ≡ Err e → (e ≡ no_place) × (pool < length g)

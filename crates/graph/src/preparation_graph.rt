@@ -10,7 +10,7 @@ ghost use Rattle.input_graph.specs.Given.{links, Between};
 ghost use Rattle.graph.specs.Promises.{Spacious, TookIn, Addable, HoldsSome, Answers, Reduces, Drops, Clears};
 
 use lists::{find_arc, predecessor, put_arc, unlink};
-use rules::INVALID;
+use rules::{INVALID, Refusal};
 
 // What goes with the slices: the first of the freed places, and how many places were ever used.
 #[derive(Clone, Copy)]
@@ -19,31 +19,20 @@ pub struct Pool {
     pub fresh: u32,
 }
 
-// What adding an arc answers: it is there, or no place is left.
-#[derive(Clone, Copy)]
-pub enum Added {
-    Arc(Pool),
-    Full,
-}
-
 // A graph of n nodes with no arc.
 pub fn clear(nodes: &mut [u32], n: usize) -> Pool
     requires { 4 * n ≤ length nodes.old }
     ensures { (arcs weights : List ℕ) (pool : ℕ) → pool ≤ invalid → 6 * pool ≤ length arcs → pool ≤ length weights →
         Stands n pool (memory arcs nodes.new) weights result [] }
 {
-    let mut i = 0;
-    while i < 4 * n {
-        nodes[i] = INVALID;
-        i += 1;
-    }
+    nodes[..4 * n].fill(INVALID);
     Pool {
         free: INVALID,
         fresh: 0,
     }
 }
 
-// Adds an arc, in the first of the freed places, else in one that was never used.
+// Adds an arc, in the first of the freed places, else in one that was never used. Refusal 10 where no place is left.
 pub fn add_edge_or_shortcut(
     arcs: &mut [u32],
     weights: &mut [u64],
@@ -54,7 +43,7 @@ pub fn add_edge_or_shortcut(
     head: u32,
     weight: u64,
     centre: u32,
-) -> Added
+) -> Result<Pool, Refusal>
     requires { (n : ℕ) × (g : List Arc) × Addable n pool (memory arcs.old nodes.old) weights.old state (arc tail head weight centre) g }
     ensures { (n : ℕ) (g : List Arc)
         (x : Addable n pool (memory arcs.old nodes.old) weights.old state (arc tail head weight centre) g) →
@@ -66,16 +55,16 @@ pub fn add_edge_or_shortcut(
     if free != INVALID {
         let rest = arcs[6 * free as usize + 5];
         put_arc(arcs, weights, nodes, free, tail, head, weight, centre);
-        return Added::Arc(Pool { free: rest, fresh });
+        return Ok(Pool { free: rest, fresh });
     }
     if fresh < pool {
         put_arc(arcs, weights, nodes, fresh, tail, head, weight, centre);
-        return Added::Arc(Pool {
+        return Ok(Pool {
             free,
             fresh: fresh + 1,
         });
     }
-    Added::Full
+    Err(Refusal::Pool)
 }
 
 // Looks for an arc of the same ends. One that is heavier takes the weight and the centre, in its place.
@@ -160,22 +149,23 @@ pub fn add_or_reduce_edge(
     head: u32,
     weight: u64,
     centre: u32,
-) -> Added
+) -> Result<Pool, Refusal>
     requires { (n : ℕ) × (g : List Arc) × Addable n pool (memory arcs.old nodes.old) weights.old state (arc tail head weight centre) g }
     ensures { (n : ℕ) (g : List Arc)
         (x : Addable n pool (memory arcs.old nodes.old) weights.old state (arc tail head weight centre) g) →
         Answers n pool (memory arcs.old nodes.old) weights.old (memory arcs.new nodes.new)
         weights.new x.stands.ids (add_or_reduce (arc tail head weight centre) g) result }
 {
-    if reduce_edge(arcs, weights, nodes, tail, head, weight, centre) {
-        return Added::Arc(state);
+    let reduced = reduce_edge(arcs, weights, nodes, tail, head, weight, centre);
+    if reduced {
+        return Ok(state);
     }
     add_edge_or_shortcut(
         arcs, weights, nodes, pool, state, tail, head, weight, centre,
     )
 }
 
-// The graph of the links, each at the end of its lists in turn. Full where there are more of them than places.
+// The graph of the links, each at the end of its lists in turn. Refusal 10 where there are more of them than places.
 pub fn from_input_graph(
     arcs: &mut [u32],
     weights: &mut [u64],
@@ -185,30 +175,24 @@ pub fn from_input_graph(
     tails: &[u32],
     heads: &[u32],
     link_weights: &[u32],
-) -> Added
+) -> Result<Pool, Refusal>
     requires { Spacious n pool (memory arcs.old nodes.old) weights.old × Between n tails.now heads.now link_weights.now }
     ensures { TookIn n pool (memory arcs.new nodes.new) weights.new
         (graph_of (links tails.now heads.now link_weights.now)) result }
 {
     let mut state = clear(nodes, n);
-    let mut i = 0;
-    while i < tails.len() {
-        let added = add_edge_or_shortcut(
+    for ((tail, head), weight) in tails.iter().zip(heads).zip(link_weights) {
+        state = add_edge_or_shortcut(
             arcs,
             weights,
             nodes,
             pool,
             state,
-            tails[i],
-            heads[i],
-            link_weights[i] as u64,
+            *tail,
+            *head,
+            u64::from(*weight),
             INVALID,
-        );
-        let Added::Arc(next) = added else {
-            return Added::Full;
-        };
-        state = next;
-        i += 1;
+        )?;
     }
-    Added::Arc(state)
+    Ok(state)
 }

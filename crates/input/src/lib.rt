@@ -15,6 +15,7 @@ pub fn fill<R: Read>(input: &mut R, space: &mut [u8]) -> io::Result<usize>
     ensures failed { IfErr result (λ e. (count : ℕ) × (count ≤ length space.new) × Consumes (R.remaining input.old) (R.remaining input.new) (take count space.new)) }
 {
     let mut end = 0;
+    // A read says how far it came: no `for` counts these places.
     while end < space.len() {
         let count = input.read(&mut space[end..])?;
         if count == 0 {

@@ -1,20 +1,19 @@
 -- Links that none of rows 1 to 6 refuses can be taken in.
-use mathlib.Core.Bool.{true, not, ◌&&◌}
+use mathlib.Core.Bool.{true, ◌&&◌}
 use mathlib.Core.List.{List, [], ◌∷◌}
-use mathlib.Core.Path.{◌≡◌, refl, sym, ap, ◌∙◌}
+use mathlib.Core.Path.{◌≡◌, refl}
 use Prim.Native.Nat.{ℕ, zero, suc, ◌<◌}
 use native.Mathlib.Omega.{arith}
 use lib.Dec.{eqb, ltb, leb}
 use lib.ListN.{length, get_or}
-use borrow.Author.Tests.{eqb-true, ltb-true, lt-ltb, not-true, not-false}
+use borrow.Author.Tests.{eqb-true, ltb-true, lt-ltb, not-false}
 use Rattle.rules.specs.Numbers.{max_links}
-use Rattle.rules.specs.Lists.{Decides, all, any}
+use Rattle.rules.specs.Lists.{Decides, all}
 use Rattle.rules.specs.Columns.{zip_links, link_list}
 use Rattle.rules.specs.Refusals.{names_none_above, columns_fit, graph_rows, graph_refusal}
 use Rattle.rules.proofs.Decides.{and_both, both_and}
 use Rattle.rules.proofs.Rows.{not_met}
-use Rattle.input_graph.specs.Given.{links, Even, Between, bad_in}
-use Rattle.input_graph.proofs.Rows.{above_rows}
+use Rattle.input_graph.specs.Given.{links, Even, Between}
 
 -- row 3, link by link
 ends_below : (n : ℕ) (ts hs ws : List ℕ) → length hs ≡ length ts → length ws ≡ length ts → all (names_none_above n) (zip_links ts hs ws) ≡ true →
@@ -41,15 +40,14 @@ all_below n (x ∷ ts) (y ∷ hs) (z ∷ ws) t h =
     (all_below n ts hs ws (λ i k. t (suc i) (omega arith)) (λ i k. h (suc i) (omega arith)))
 
 -- so row 3 decides whether columns of one length are links between n nodes
-pub between_decides : (n : ℕ) (ts hs ws : List ℕ) → Even ts hs ws → Decides (not (any (bad_in 3 n) (link_list (links ts hs ws)))) (Between n ts hs ws)
+pub between_decides : (n : ℕ) (ts hs ws : List ℕ) → Even ts hs ws → Decides (all (names_none_above n) (link_list (links ts hs ws))) (Between n ts hs ws)
 unfolding link_list
-between_decides n ts hs ws even =
-    let rows = above_rows n (link_list (links ts hs ws)) in (
-      λ e.
-          let ends = ends_below n ts hs ws even.heads even.weights (not-false _ (rows ∙ not-true _ e)) in
-          record { even = even; tails = λ i h. (ends i h).0; heads = λ i h. (ends i h).1 },
-      λ b. ap not (sym rows ∙ ap not (all_below n ts hs ws b.tails b.heads)),
-    )
+between_decides n ts hs ws even = (
+  λ e.
+      let ends = ends_below n ts hs ws even.heads even.weights e in
+      record { even = even; tails = λ i h. (ends i h).0; heads = λ i h. (ends i h).1 },
+  λ b. all_below n ts hs ws b.tails b.heads,
+)
 
 -- row 2
 fit_even : (ts hs ws : List ℕ) → columns_fit (links ts hs ws) ≡ true → Even ts hs ws

@@ -1,4 +1,5 @@
 -- What the proofs share.
+pub mod Neighbours
 pub mod Columns
 pub mod Rows
 pub mod Accepted

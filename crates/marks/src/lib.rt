@@ -2,36 +2,10 @@
 #![tactic(auto)]
 
 ghost use Rattle.std.specs.Prelude.{◌≡◌};
-ghost use Rattle.rules.specs.Numbers.{invalid, no_weight};
-ghost use Rattle.rules.specs.Lists.{filled};
 ghost use Rattle.rules.specs.Columns.{marked_table, marked};
 ghost use Rattle.marks.specs.Tables.{table_of, hierarchy};
 
 use rules::{INVALID, WEIGHT_MAX};
-
-// Every place set to the invalid mark.
-fn fill_u32(column: &mut [u32])
-    ensures { column.new ≡ filled invalid column.old }
-{
-    let count = column.len();
-    let mut i = 0;
-    while i < count {
-        column[i] = INVALID;
-        i += 1;
-    }
-}
-
-// Every place set to the no-weight mark.
-fn fill_u64(column: &mut [u64])
-    ensures { column.new ≡ filled no_weight column.old }
-{
-    let count = column.len();
-    let mut i = 0;
-    while i < count {
-        column[i] = WEIGHT_MAX;
-        i += 1;
-    }
-}
 
 // Every place of a table set to the mark of its column.
 fn mark_table(
@@ -45,12 +19,12 @@ fn mark_table(
     ensures { (table_of starts.new bases.new neighbours.new weights.new ins.new outs.new)
         ≡ marked_table (table_of starts.old bases.old neighbours.old weights.old ins.old outs.old) }
 {
-    fill_u32(starts);
-    fill_u32(bases);
-    fill_u32(neighbours);
-    fill_u64(weights);
-    fill_u32(ins);
-    fill_u32(outs);
+    starts.fill(INVALID);
+    bases.fill(INVALID);
+    neighbours.fill(INVALID);
+    weights.fill(WEIGHT_MAX);
+    ins.fill(INVALID);
+    outs.fill(INVALID);
 }
 
 // After refusals 10 to 12: every lent place.
@@ -76,7 +50,7 @@ pub fn mark_all(
         (table_of fwd_starts.old fwd_bases.old fwd_neighbours.old fwd_weights.old fwd_ins.old fwd_outs.old)
         (table_of bwd_starts.old bwd_bases.old bwd_neighbours.old bwd_weights.old bwd_ins.old bwd_outs.old)) }
 {
-    fill_u32(ranks);
+    ranks.fill(INVALID);
     mark_table(
         fwd_starts,
         fwd_bases,

@@ -13,6 +13,9 @@ use Rattle.rules.specs.Search.{init}
 use Rattle.rules.specs.Build.{Step, went, refused, and_then, Contracting, shortcut, pairs_of, handle_shortcuts, contract_node}
 use Rattle.search_laws.proofs.Graphs.{in_outs, in_ins, in_disconnected, in_added}
 use Rattle.build_laws.proofs.Contraction.{shortcuts_keep}
+use Rattle.std.specs.Prelude.{Result, Ok, Err}
+use Rattle.rules.specs.declared.Refusal.{Refusal}
+use Rattle.rules.specs.Refused.{number_of}
 use Rattle.lists.specs.Memory.{Memory, memory, arc_at, touches}
 use Rattle.lists.specs.Walks.{column, steps}
 use Rattle.lists.proofs.Walks.{tail_at, in_drop}
@@ -26,8 +29,6 @@ use Rattle.search.specs.Promises.{Starts}
 use Rattle.search.proofs.Laws.{ready_stamped, starting, started}
 use Rattle.search.proofs.Walks.{Left, left_along, left_fit, few_ins}
 use Rattle.node_contractor.specs.declared.Work.{Work}
-use Rattle.node_contractor.specs.declared.Contracted.{Contracted}
-use Rattle.node_contractor.specs.declared.Contracted.TheVariants.{Went, Refused}
 use Rattle.node_contractor.specs.Promises.{contracting, Leaving, Leaves, Rests, Coming, Passed, Passes, Comes, Contractible, Done, Does}
 use Rattle.node_contractor.proofs.Pairs.{over_standing}
 use Rattle.node_contractor.proofs.OutArcs.{left_list, left_none, left_steps}
@@ -49,7 +50,7 @@ module _ {arcs weights nodes labels heap labels' heap' : List ℕ} {pool : ℕ} 
         at = p.at;
       }
 
-  pub in_arc_passes : {m'' : Lent} (limit : ℕ) {r : Contracted} → length m''.heap ≡ length heap' →
+  pub in_arc_passes : {m'' : Lent} (limit : ℕ) {r : Result Work Refusal} → length m''.heap ≡ length heap' →
       Leaves (lent arcs weights nodes labels' heap') m'' pool begun v tail weight limit r →
       Passes x m'' v p.startable.resting.standing.stands (pairs_of pool limit v a (outs g v) (contracting g (init tail))) r
   in_arc_passes limit e leaves =
@@ -162,7 +163,7 @@ module _ {m₀ : Lent} {pool : ℕ} {x₀ : Work} {v limit n : ℕ} {g : List Ar
               };
         }
 
-    module _ {m' : Lent} {r : Contracted}
+    module _ {m' : Lent} {r : Result Work Refusal}
         (comes : Comes (lent arcs weights nodes labels heap) m' pool x v (get_or arcs (6 * place) 0) (get_or weights place 0) limit r) where
       abbrev whole : Step Contracting
       whole = pairs_of pool limit v a (outs y.graph v) (contracting y.graph (init (get_or arcs (6 * place) 0)))
@@ -173,11 +174,11 @@ module _ {m₀ : Lent} {pool : ℕ} {x₀ : Work} {v limit n : ℕ} {g : List Ar
       is_whole : pairs_of pool limit v a (outs g v) (contracting y.graph (init a.tail)) ≡ whole
       is_whole = rw (same_outs, tail_at (memory arcs nodes) place)
 
-      pub ins_stop : (number : ℕ) → r ≡ Refused number → handle_shortcuts pool limit v (ins g v) (outs g v) g ≡ refused number
-      ins_stop number e =
-          sym y.same ∙ shortcuts_stop pool limit v a (ins g v) (outs g v) y.graph y.passed first number (is_whole ∙ passes.no number e)
+      pub ins_stop : (e : Refusal) → r ≡ Err e → handle_shortcuts pool limit v (ins g v) (outs g v) g ≡ refused (number_of e)
+      ins_stop e is =
+          sym y.same ∙ shortcuts_stop pool limit v a (ins g v) (outs g v) y.graph y.passed first (number_of e) (is_whole ∙ passes.no e is)
 
-      module _ (x' : Work) (e : r ≡ Went x') where
+      module _ (x' : Work) (e : r ≡ Ok x') where
         passed_came : Passed x m' v y.rests.standing.stands whole x'
         passed_came = passes.came x' e
 
@@ -233,18 +234,18 @@ module _ {m₀ : Lent} {pool : ℕ} {x₀ : Work} {v limit n : ℕ} {g : List Ar
       }
 
 module _ {m' : Lent} {pool : ℕ} {x : Work} {n : ℕ} {d : Step (List Arc)} where
-  pub does_came : {y : Work} → Done m' pool x n d y → Does m' pool x n d (Went y)
+  pub does_came : {y : Work} → Done m' pool x n d y → Does m' pool x n d (Ok y)
   does_came {y} k =
       record {
         came = λ y' e. let q : y' ≡ y = cc in rw q k;
-        no = λ k e. absurd (let z : ◌≡◌ {A = ℕ} 0 1 = cc in omega arith);
+        no = λ k e. absurd (cc);
       }
 
-  pub does_refused : {k : ℕ} → d ≡ refused k → Does m' pool x n d (Refused k)
-  does_refused {k} h =
+  pub does_refused : {e : Refusal} → d ≡ refused (number_of e) → Does m' pool x n d (Err e)
+  does_refused {e} h =
       record {
-        came = λ y e. absurd (let z : ◌≡◌ {A = ℕ} 0 1 = cc in omega arith);
-        no = λ k' e. let q : k' ≡ k = cc in rw q h;
+        came = λ y is. absurd (cc);
+        no = λ e' is. let q : e' ≡ e = cc in rw q h;
       }
 
 -- Rule 4.

@@ -10,6 +10,9 @@ use Rattle.rules.specs.Lists.{In, keep}
 use Rattle.rules.specs.Graph.{Arc, outs}
 use Rattle.rules.specs.Search.{Search}
 use Rattle.rules.specs.Build.{Step, went, refused, and_then, Contracting, pair, pairs_of}
+use Rattle.std.specs.Prelude.{Result, Ok, Err}
+use Rattle.rules.specs.declared.Refusal.{Refusal}
+use Rattle.rules.specs.Refused.{number_of}
 use Rattle.lists.specs.Memory.{Memory, memory, arc_at, touches}
 use Rattle.lists.specs.Walks.{column, steps}
 use Rattle.lists.proofs.Walks.{first_out, reads_on, reads_end, reads_steps, in_drop}
@@ -20,8 +23,6 @@ use Rattle.graph.proofs.Along.{Along, along_first, along_next, along_stays}
 use Rattle.search.specs.Searching.{most_sum, World, Lent, lent, Standing}
 use Rattle.search.proofs.Walks.{Left, left_along, left_fit}
 use Rattle.node_contractor.specs.declared.Work.{Work}
-use Rattle.node_contractor.specs.declared.Contracted.{Contracted}
-use Rattle.node_contractor.specs.declared.Contracted.TheVariants.{Went, Refused}
 use Rattle.node_contractor.specs.Promises.{contracting, pair_of, Midst, Came, Steps, Pairing, Pairs, Leaving}
 use Rattle.node_contractor.proofs.Pairs.{pair_is}
 
@@ -124,17 +125,17 @@ module _ {m₀ : Lent} {pool : ℕ} {x₀ : Work} {v tail weight limit n : ℕ} 
     is_pair : pair pool limit v a b (contracting y.graph y.search) ≡ whole
     is_pair = pair_is pool limit v tail weight a b (contracting y.graph y.search) p.at.tail_is p.at.weight_is
 
-    module _ {m' : Lent} {r : Contracted}
+    module _ {m' : Lent} {r : Result Work Refusal}
         (pairs : Pairs (lent arcs weights nodes labels heap) m' pool x v tail (get_or arcs (6 * place + 1) 0) (weight + get_or weights place 0) limit r) where
       stepped : Steps x m' v y.midst.standing.stands whole r
       stepped = pairs n y.graph y.search outs_pairing outs_sum
 
-      pub outs_stop : (number : ℕ) → r ≡ Refused number → pairs_of pool limit v a (outs g v) (contracting g s) ≡ refused number
-      outs_stop number e =
+      pub outs_stop : (e : Refusal) → r ≡ Err e → pairs_of pool limit v a (outs g v) (contracting g s) ≡ refused (number_of e)
+      outs_stop e is =
           sym y.same ∙
-          pairs_stop pool limit v a b (outs g v) y.passed (contracting y.graph y.search) first number (is_pair ∙ stepped.no number e)
+          pairs_stop pool limit v a b (outs g v) y.passed (contracting y.graph y.search) first (number_of e) (is_pair ∙ stepped.no e is)
 
-      module _ (x' : Work) (e : r ≡ Went x') where
+      module _ (x' : Work) (e : r ≡ Ok x') where
         pair_came : Came x m' v y.midst.standing.stands whole x'
         pair_came = stepped.came x' e
 

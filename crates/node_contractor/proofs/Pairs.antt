@@ -13,10 +13,12 @@ use Rattle.rules.specs.Search.{Search, Found, find_max_weight}
 use Rattle.rules.specs.Build.{Step, went, refused, and_then, in_pool, Contracting, shortcut, add, within_sum, pair}
 use Rattle.rules.proofs.Pairs.{light_added, heavy_kept_out, heavy_refused, found_for, witness_drops, none_goes_on}
 use Rattle.search_laws.proofs.Graphs.{kept_joins, none_reduced}
+use Rattle.std.specs.Prelude.{Result, Ok, Err}
+use Rattle.rules.specs.declared.Refusal.{Refusal}
+use Rattle.rules.specs.declared.Refusal.TheVariants.{Sum}
+use Rattle.rules.specs.Refused.{number_of}
 use Rattle.lists.specs.Memory.{Memory, memory, arc}
 use Rattle.graph.specs.declared.preparation_graph.Pool.{Pool}
-use Rattle.graph.specs.declared.preparation_graph.Added.{Added}
-use Rattle.graph.specs.declared.preparation_graph.Added.TheVariants.{Arc as Came', Full}
 use Rattle.graph.specs.Stands.{Stands, Extends}
 use Rattle.graph.specs.Promises.{Addable, Answers, Reduces}
 use Rattle.graph.proofs.Standing.{within_pool}
@@ -26,8 +28,6 @@ use Rattle.search.specs.Searching.{most_sum, World, world, Lent, lent, Standing,
 use Rattle.search.specs.Promises.{Answered, Asks}
 use Rattle.search.proofs.Laws.{with_arc, standing_added, ready_added}
 use Rattle.node_contractor.specs.declared.Work.{Work}
-use Rattle.node_contractor.specs.declared.Contracted.{Contracted}
-use Rattle.node_contractor.specs.declared.Contracted.TheVariants.{Went, Refused}
 use Rattle.node_contractor.specs.Promises.{contracting, pair_of, Came, Steps, Pairing}
 
 -- The definition, by what the tests said.
@@ -56,22 +56,22 @@ pair_is pool limit v tail weight a b c p q = rw (← p, ← q)
 
 -- What a step comes to.
 module _ {n pool : ℕ} {m : Memory} {w : List ℕ} {state : Pool} {g : List Arc} {x : Work} {m' : Lent} {v : ℕ} {old : Stands n pool m w state g} {d : Step Contracting} where
-  pub steps_came : {y : Work} → Came x m' v old d y → Steps x m' v old d (Went y)
+  pub steps_came : {y : Work} → Came x m' v old d y → Steps x m' v old d (Ok y)
   steps_came {y} k =
       record {
         came = λ y' e. let q : y' ≡ y = cc in rw q k;
-        no = λ k e. absurd (let z : ◌≡◌ {A = ℕ} 0 1 = cc in omega arith);
+        no = λ k e. absurd (cc);
       }
 
-  pub steps_refused : {k : ℕ} → d ≡ refused k → Steps x m' v old d (Refused k)
-  steps_refused {k} h =
+  pub steps_refused : {e : Refusal} → d ≡ refused (number_of e) → Steps x m' v old d (Err e)
+  steps_refused {e} h =
       record {
-        came = λ y e. absurd (let z : ◌≡◌ {A = ℕ} 0 1 = cc in omega arith);
-        no = λ k' e. let q : k' ≡ k = cc in rw q h;
+        came = λ y is. absurd (cc);
+        no = λ e' is. let q : e' ≡ e = cc in rw q h;
       }
 
   -- the search went on meanwhile
-  pub steps_from : {x₀ : Work} {d₀ : Step Contracting} {r : Contracted} → d₀ ≡ d → x.search.base ≡ x₀.search.base → x.search.avoid ≡ x₀.search.avoid →
+  pub steps_from : {x₀ : Work} {d₀ : Step Contracting} {r : Result Work Refusal} → d₀ ≡ d → x.search.base ≡ x₀.search.base → x.search.avoid ≡ x₀.search.avoid →
       Steps x m' v old d r → Steps x₀ m' v old d₀ r
   steps_from e base avoid s =
       record {
@@ -100,7 +100,7 @@ module _ {m : Lent} {pool : ℕ} {x : Work} {v tail head n : ℕ} {g : List Arc}
   held = p.midst.standing.stands
 
   -- nothing to do
-  pub dropped : {d : Step Contracting} → d ≡ went (contracting g s) → Steps x m v held d (Went x)
+  pub dropped : {d : Step Contracting} → d ≡ went (contracting g s) → Steps x m v held d (Ok x)
   dropped e =
       steps_came
       (record {
@@ -127,7 +127,7 @@ module _ {m : Lent} {pool : ℕ} {x : Work} {v tail head n : ℕ} {g : List Arc}
     -- the slices hold the graph with the shortcut, or with what kept it out
     holding : {d : Step Contracting} (next : Pool) (more : Extends n pool (memory arcs nodes) weights next (add_or_reduce (short sum) g) held.ids) →
         ((y : Arc) → In y (add_or_reduce (short sum) g) → y.weight ≤ max_weight) → d ≡ went (contracting (add_or_reduce (short sum) g) s) →
-        Steps x (lent arcs weights nodes m.labels m.heap) v held d (Went (record { state = next; search = x.search }))
+        Steps x (lent arcs weights nodes m.labels m.heap) v held d (Ok (record { state = next; search = x.search }))
     holding next more light e =
         let standing : Standing (with_arc (world n pool x.state g) next (short sum)) arcs weights nodes = record { stands = more.stands; light = light } in
         steps_came
@@ -141,11 +141,11 @@ module _ {m : Lent} {pool : ℕ} {x : Work} {v tail head n : ℕ} {g : List Arc}
           avoid = refl;
         })
 
-    module _ (small : sum ≤ max_weight) (r : Added)
+    module _ (small : sum ≤ max_weight) (r : Result Pool Refusal)
         (answers : Answers n pool (memory m.arcs m.nodes) m.weights (memory arcs nodes) weights held.ids (add_or_reduce (short sum) g) r) where
       -- the shortcut came
-      pub added_came : (next : Pool) → r ≡ Came' next →
-          Steps x (lent arcs weights nodes m.labels m.heap) v held (within_sum pool limit v (short sum) g s) (Went (record { state = next; search = x.search }))
+      pub added_came : (next : Pool) → r ≡ Ok next →
+          Steps x (lent arcs weights nodes m.labels m.heap) v held (within_sum pool limit v (short sum) g s) (Ok (record { state = next; search = x.search }))
       unfolding add in_pool and_then
       added_came next e =
           let more = answers.came next e in
@@ -153,11 +153,12 @@ module _ {m : Lent} {pool : ℕ} {x : Work} {v tail head n : ℕ} {g : List Arc}
           (light_added pool limit v (short sum) g s small ∙ rw (le-leb (length (add_or_reduce (short sum) g)) pool (within_pool more.stands), add, in_pool))
 
       -- no place was left for it
-      pub pool_full : {m' : Lent} → r ≡ Full → Steps x m' v held (within_sum pool limit v (short sum) g s) (Refused 10)
+      pub pool_full : {m' : Lent} {e : Refusal} → r ≡ Err e → Steps x m' v held (within_sum pool limit v (short sum) g s) (Err e)
       unfolding add in_pool and_then
-      pool_full e =
+      pool_full {e = e} is =
+          let full = answers.full e is in
           steps_refused
-          (light_added pool limit v (short sum) g s small ∙ rw (lt-leb (length (add_or_reduce (short sum) g)) pool (answers.full e), add, in_pool))
+          (light_added pool limit v (short sum) g s small ∙ rw (full.0, lt-leb (length (add_or_reduce (short sum) g)) pool full.1, add, in_pool))
 
     -- of a sum that no arc may weigh
     module _ (large : max_weight < sum) (r : Bool)
@@ -166,7 +167,7 @@ module _ {m : Lent} {pool : ℕ} {x : Work} {v tail head n : ℕ} {g : List Arc}
       none_heavier y i = omega (arith, p.midst.standing.light y i)
 
       -- an arc was there
-      pub arc_there : r ≡ true → Steps x (lent arcs weights nodes m.labels m.heap) v held (within_sum pool limit v (short sum) g s) (Went x)
+      pub arc_there : r ≡ true → Steps x (lent arcs weights nodes m.labels m.heap) v held (within_sum pool limit v (short sum) g s) (Ok x)
       arc_there e =
           let found = reduces.found ∙ e in
           let same = none_reduced (short sum) g none_heavier found in
@@ -174,7 +175,7 @@ module _ {m : Lent} {pool : ℕ} {x : Work} {v tail head n : ℕ} {g : List Arc}
           (heavy_kept_out pool limit v (short sum) g s large (kept_joins (short sum) g none_heavier ∙ found) ∙ ap (λ h. went (contracting h s)) (sym same))
 
       -- or none
-      pub no_arc_there : {m' : Lent} → r ≡ false → Steps x m' v held (within_sum pool limit v (short sum) g s) (Refused 12)
+      pub no_arc_there : {m' : Lent} → r ≡ false → Steps x m' v held (within_sum pool limit v (short sum) g s) (Err Sum)
       no_arc_there e =
           steps_refused (heavy_refused pool limit v (short sum) g s large (kept_joins (short sum) g none_heavier ∙ reduces.found ∙ e))
 
@@ -200,7 +201,7 @@ module _ {m : Lent} {pool : ℕ} {x : Work} {v tail head n : ℕ} {g : List Arc}
 
     module _ (differ : tail ≡ head → ⊥) where
       pub witnessed : r.weight ≤ sum →
-          Steps x (lent m.arcs m.weights m.nodes labels heap) v held (pair_of pool limit v tail head sum (contracting g s)) (Went later)
+          Steps x (lent m.arcs m.weights m.nodes labels heap) v held (pair_of pool limit v tail head sum (contracting g s)) (Ok later)
       witnessed h =
           steps_came
           (record {
@@ -216,7 +217,7 @@ module _ {m : Lent} {pool : ℕ} {x : Work} {v tail head n : ℕ} {g : List Arc}
             avoid = answered.avoid;
           })
 
-      pub not_witnessed : {m' : Lent} {r' : Contracted} → sum < r.weight →
+      pub not_witnessed : {m' : Lent} {r' : Result Work Refusal} → sum < r.weight →
           Steps later m' v held (within_sum pool limit v (arc tail head sum v) g sought_later) r' →
           Steps x m' v held (pair_of pool limit v tail head sum (contracting g s)) r'
       not_witnessed h =

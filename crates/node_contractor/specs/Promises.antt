@@ -1,18 +1,18 @@
 -- What the functions ask and promise. As in crates/search, graph and search are no values of the code: a function asks that there are
 -- some for which its slices stand, and promises its answer for each of them. The graph has n nodes, and v is being contracted.
-use Rattle.std.specs.Prelude.{true, false, List, ◌≡◌, ℕ, ◌+◌, ◌*◌, ◌≤◌, ◌<◌, eqb, length}
+use Rattle.std.specs.Prelude.{true, false, List, ◌≡◌, ℕ, ◌+◌, ◌*◌, ◌≤◌, ◌<◌, eqb, length, Result, Ok, Err}
 use Rattle.rules.specs.Numbers.{max_weight}
 use Rattle.rules.specs.Lists.{In}
 use Rattle.rules.specs.Graph.{Arc, outs, ins, Loopless}
 use Rattle.rules.specs.Search.{Search, init}
 use Rattle.rules.specs.Build.{Step, went, refused, Contracting, within_sum, ask, pairs_of, handle_shortcuts, contract_node}
+use Rattle.rules.specs.declared.Refusal.{Refusal}
+use Rattle.rules.specs.Refused.{number_of}
 use Rattle.lists.specs.Memory.{Memory, arc}
 use Rattle.graph.specs.declared.preparation_graph.Pool.{Pool}
 use Rattle.graph.specs.Stands.{Stands, Unmoved}
 use Rattle.search.specs.Searching.{most_sum, world, Lent, Ready, Resting, Startable, Entering}
 use Rattle.node_contractor.specs.declared.Work.{Work}
-use Rattle.node_contractor.specs.declared.Contracted.{Contracted}
-use Rattle.node_contractor.specs.declared.Contracted.TheVariants.{Went, Refused}
 
 abbrev pub contracting : List Arc → Search → Contracting
 contracting g s = record { graph = g; search = s }
@@ -39,9 +39,9 @@ pub record Came {n pool : ℕ} {m : Memory} {w : List ℕ} {state : Pool} {g : L
 
 -- or it met the same refusal
 pub record Steps {n pool : ℕ} {m : Memory} {w : List ℕ} {state : Pool} {g : List Arc} (x : Work) (m' : Lent) (v : ℕ) (old : Stands n pool m w state g)
-    (d : Step Contracting) (r : Contracted) : Type 0 where
-  pub came : (y : Work) → r ≡ Went y → Came x m' v old d y
-  pub no : (k : ℕ) → r ≡ Refused k → d ≡ refused k
+    (d : Step Contracting) (r : Result Work Refusal) : Type 0 where
+  pub came : (y : Work) → r ≡ Ok y → Came x m' v old d y
+  pub no : (e : Refusal) → r ≡ Err e → d ≡ refused (number_of e)
 
 -- a pair is at hand, and v is none of its ends
 pub record Pairing (m : Lent) (pool : ℕ) (x : Work) (v tail head n : ℕ) (g : List Arc) (s : Search) : Type 0 where
@@ -52,12 +52,12 @@ pub record Pairing (m : Lent) (pool : ℕ) (x : Work) (v tail head n : ℕ) (g :
   pub tail_off : tail ≡ v → ⊥
   pub head_off : head ≡ v → ⊥
 
-abbrev pub Adds : (m m' : Lent) (pool : ℕ) → Work → (v tail head sum limit : ℕ) → Contracted → Type 0
+abbrev pub Adds : (m m' : Lent) (pool : ℕ) → Work → (v tail head sum limit : ℕ) → Result Work Refusal → Type 0
 Adds m m' pool x v tail head sum limit r =
     (n : ℕ) (g : List Arc) (s : Search) (p : Pairing m pool x v tail head n g s) →
     Steps x m' v p.midst.standing.stands (within_sum pool limit v (arc tail head sum v) g s) r
 
-abbrev pub Pairs : (m m' : Lent) (pool : ℕ) → Work → (v tail head sum limit : ℕ) → Contracted → Type 0
+abbrev pub Pairs : (m m' : Lent) (pool : ℕ) → Work → (v tail head sum limit : ℕ) → Result Work Refusal → Type 0
 Pairs m m' pool x v tail head sum limit r =
     (n : ℕ) (g : List Arc) (s : Search) (p : Pairing m pool x v tail head n g s) → sum ≤ most_sum →
     Steps x m' v p.midst.standing.stands (pair_of pool limit v tail head sum (contracting g s)) r
@@ -78,7 +78,7 @@ pub record Leaving (m : Lent) (pool : ℕ) (x : Work) (v tail weight n : ℕ) (g
   pub avoids : x.search.avoid ≡ v
   pub at : InArc v tail weight n g a
 
-abbrev pub Leaves : (m m' : Lent) (pool : ℕ) → Work → (v tail weight limit : ℕ) → Contracted → Type 0
+abbrev pub Leaves : (m m' : Lent) (pool : ℕ) → Work → (v tail weight limit : ℕ) → Result Work Refusal → Type 0
 Leaves m m' pool x v tail weight limit r =
     (n : ℕ) (g : List Arc) (a : Arc) (s : Search) (p : Leaving m pool x v tail weight n g a s) →
     Steps x m' v p.midst.standing.stands (pairs_of pool limit v a (outs g v) (contracting g s)) r
@@ -102,11 +102,11 @@ pub record Passed {n pool : ℕ} {m : Memory} {w : List ℕ} {state : Pool} {g :
   pub base : y.search.base ≡ x.search.base + 2
 
 pub record Passes {n pool : ℕ} {m : Memory} {w : List ℕ} {state : Pool} {g : List Arc} (x : Work) (m' : Lent) (v : ℕ) (old : Stands n pool m w state g)
-    (d : Step Contracting) (r : Contracted) : Type 0 where
-  pub came : (y : Work) → r ≡ Went y → Passed x m' v old d y
-  pub no : (k : ℕ) → r ≡ Refused k → d ≡ refused k
+    (d : Step Contracting) (r : Result Work Refusal) : Type 0 where
+  pub came : (y : Work) → r ≡ Ok y → Passed x m' v old d y
+  pub no : (e : Refusal) → r ≡ Err e → d ≡ refused (number_of e)
 
-abbrev pub Comes : (m m' : Lent) (pool : ℕ) → Work → (v tail weight limit : ℕ) → Contracted → Type 0
+abbrev pub Comes : (m m' : Lent) (pool : ℕ) → Work → (v tail weight limit : ℕ) → Result Work Refusal → Type 0
 Comes m m' pool x v tail weight limit r =
     (n : ℕ) (g : List Arc) (a : Arc) (p : Coming m pool x v tail weight n g a) →
     Passes x m' v p.startable.resting.standing.stands (pairs_of pool limit v a (outs g v) (contracting g (init tail))) r
@@ -124,16 +124,16 @@ pub record Done (m' : Lent) (pool : ℕ) (x : Work) (n : ℕ) (d : Step (List Ar
   pub loopless : Loopless graph
   pub base : y.search.base ≤ x.search.base + 2 * pool
 
-pub record Does (m' : Lent) (pool : ℕ) (x : Work) (n : ℕ) (d : Step (List Arc)) (r : Contracted) : Type 0 where
-  pub came : (y : Work) → r ≡ Went y → Done m' pool x n d y
-  pub no : (k : ℕ) → r ≡ Refused k → d ≡ refused k
+pub record Does (m' : Lent) (pool : ℕ) (x : Work) (n : ℕ) (d : Step (List Arc)) (r : Result Work Refusal) : Type 0 where
+  pub came : (y : Work) → r ≡ Ok y → Done m' pool x n d y
+  pub no : (e : Refusal) → r ≡ Err e → d ≡ refused (number_of e)
 
-abbrev pub Handles : (m m' : Lent) (pool : ℕ) → Work → (v limit : ℕ) → Contracted → Type 0
+abbrev pub Handles : (m m' : Lent) (pool : ℕ) → Work → (v limit : ℕ) → Result Work Refusal → Type 0
 Handles m m' pool x v limit r =
     (n : ℕ) (g : List Arc) → Contractible m pool x v n g →
     Does m' pool x n (handle_shortcuts pool limit v (ins g v) (outs g v) g) r
 
 -- `contract_node`
-abbrev pub Contracts : (m m' : Lent) (pool : ℕ) → Work → (v limit : ℕ) → Contracted → Type 0
+abbrev pub Contracts : (m m' : Lent) (pool : ℕ) → Work → (v limit : ℕ) → Result Work Refusal → Type 0
 Contracts m m' pool x v limit r =
     (n : ℕ) (g : List Arc) → Contractible m pool x v n g → Does m' pool x n (contract_node pool limit v g) r

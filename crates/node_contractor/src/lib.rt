@@ -7,22 +7,15 @@ ghost use Rattle.rules.specs.Search.{Search};
 ghost use Rattle.search.specs.Searching.{most_sum, lent};
 ghost use Rattle.node_contractor.specs.Promises.{Pairing, Adds, Pairs, Leaving, Leaves, Coming, Comes, Contractible, Handles, Contracts};
 
-use graph::preparation_graph::{Added, Pool};
-use rules::{INVALID, MAX_WEIGHT};
-use search::witness_search::WitnessSearch;
+use graph::preparation_graph::{Pool, add_or_reduce_edge, disconnect, reduce_edge};
+use rules::{INVALID, MAX_WEIGHT, Refusal};
+use search::witness_search::{WitnessSearch, find_max_weight, init};
 
 // What goes with the slices: where the pool's places stand, and the search.
 #[derive(Clone, Copy)]
 pub struct Work {
     pub state: Pool,
     pub search: WitnessSearch,
-}
-
-// What a step comes to: it went, or it met a refusal, whose number this is.
-#[derive(Clone, Copy)]
-pub enum Contracted {
-    Went(Work),
-    Refused(u32),
 }
 
 // Adds or reduces the arc of a pair that has no witness. A sum above 2^40 is none that an arc may weigh: an arc of the same ends is
@@ -37,30 +30,21 @@ fn add_shortcut(
     tail: u32,
     head: u32,
     sum: u64,
-) -> Contracted
+) -> Result<Work, Refusal>
     requires { (labels heap : List ℕ) × (n : ℕ) × (g : List Arc) × (s : Search) × Pairing (lent arcs.old weights.old nodes.old labels heap) pool work v tail head n g s }
     ensures { (labels heap : List ℕ) (limit : ℕ) → Adds (lent arcs.old weights.old nodes.old labels heap)
         (lent arcs.new weights.new nodes.new labels heap) pool work v tail head sum limit result }
 {
     let heavy = MAX_WEIGHT < sum;
     if heavy {
-        if graph::preparation_graph::reduce_edge(arcs, weights, nodes, tail, head, sum, v) {
-            return Contracted::Went(work);
+        if reduce_edge(arcs, weights, nodes, tail, head, sum, v) {
+            return Ok(work);
         }
-        return Contracted::Refused(12);
+        return Err(Refusal::Sum);
     }
-    let state = work.state;
-    let search = work.search;
-    let added = graph::preparation_graph::add_or_reduce_edge(
-        arcs, weights, nodes, pool, state, tail, head, sum, v,
-    );
-    let Added::Arc(next) = added else {
-        return Contracted::Refused(10);
-    };
-    Contracted::Went(Work {
-        state: next,
-        search,
-    })
+    let Work { state, search } = work;
+    let state = add_or_reduce_edge(arcs, weights, nodes, pool, state, tail, head, sum, v)?;
+    Ok(Work { state, search })
 }
 
 // One pair: dropped where both ends are the same, or where there is a witness.
@@ -77,25 +61,33 @@ fn handle_pair(
     head: u32,
     sum: u64,
     limit: u32,
-) -> Contracted
+) -> Result<Work, Refusal>
     requires { (n : ℕ) × (g : List Arc) × (s : Search) × Pairing (lent arcs.old weights.old nodes.old labels.old heap.old) pool work v tail head n g s × (sum ≤ most_sum) }
     ensures { Pairs (lent arcs.old weights.old nodes.old labels.old heap.old)
         (lent arcs.new weights.new nodes.new labels.new heap.new) pool work v tail head sum limit result }
 {
     let same = tail == head;
     if same {
-        return Contracted::Went(work);
+        return Ok(work);
     }
-    let state = work.state;
-    let asked = work.search;
-    let found = search::witness_search::find_max_weight(
-        arcs, weights, nodes, labels, heap, asked, head, sum, limit,
+    let found = find_max_weight(
+        arcs,
+        weights,
+        nodes,
+        labels,
+        heap,
+        work.search,
+        head,
+        sum,
+        limit,
     );
-    let search = found.search;
-    let after = Work { state, search };
+    let after = Work {
+        state: work.state,
+        search: found.search,
+    };
     let witness = found.weight <= sum;
     if witness {
-        return Contracted::Went(after);
+        return Ok(after);
     }
     add_shortcut(arcs, weights, nodes, pool, after, v, tail, head, sum)
 }
@@ -114,7 +106,7 @@ fn handle_out_arcs(
     tail: u32,
     weight: u64,
     limit: u32,
-) -> Contracted
+) -> Result<Work, Refusal>
     requires { (n : ℕ) × (g : List Arc) × (a : Arc) × (s : Search) × Leaving (lent arcs.old weights.old nodes.old labels.old heap.old) pool work v tail weight n g a s }
     ensures { Leaves (lent arcs.old weights.old nodes.old labels.old heap.old)
         (lent arcs.new weights.new nodes.new labels.new heap.new) pool work v tail weight limit result }
@@ -126,19 +118,11 @@ fn handle_out_arcs(
         place = arcs[6 * i + 3];
         let head = arcs[6 * i + 1];
         let sum = weight + weights[i];
-        let step = handle_pair(
+        work = handle_pair(
             arcs, weights, nodes, labels, heap, pool, work, v, tail, head, sum, limit,
-        );
-        match step {
-            Contracted::Went(next) => {
-                work = next;
-            }
-            Contracted::Refused(number) => {
-                return Contracted::Refused(number);
-            }
-        }
+        )?;
     }
-    Contracted::Went(work)
+    Ok(work)
 }
 
 // One in-arc, with a search of its own.
@@ -154,14 +138,12 @@ fn handle_in_arc(
     tail: u32,
     weight: u64,
     limit: u32,
-) -> Contracted
+) -> Result<Work, Refusal>
     requires { (n : ℕ) × (g : List Arc) × (a : Arc) × Coming (lent arcs.old weights.old nodes.old labels.old heap.old) pool work v tail weight n g a }
     ensures { Comes (lent arcs.old weights.old nodes.old labels.old heap.old)
         (lent arcs.new weights.new nodes.new labels.new heap.new) pool work v tail weight limit result }
 {
-    let state = work.state;
-    let rested = work.search;
-    let search = search::witness_search::init(labels, heap, rested, tail, v);
+    let search = init(labels, heap, work.search, tail, v);
     handle_out_arcs(
         arcs,
         weights,
@@ -169,7 +151,10 @@ fn handle_in_arc(
         labels,
         heap,
         pool,
-        Work { state, search },
+        Work {
+            state: work.state,
+            search,
+        },
         v,
         tail,
         weight,
@@ -189,7 +174,7 @@ fn handle_shortcuts(
     work: Work,
     v: u32,
     limit: u32,
-) -> Contracted
+) -> Result<Work, Refusal>
     requires { (n : ℕ) × (g : List Arc) × Contractible (lent arcs.old weights.old nodes.old labels.old heap.old) pool work v n g }
     ensures { Handles (lent arcs.old weights.old nodes.old labels.old heap.old)
         (lent arcs.new weights.new nodes.new labels.new heap.new) pool work v limit result }
@@ -201,19 +186,11 @@ fn handle_shortcuts(
         place = arcs[6 * i + 4];
         let tail = arcs[6 * i];
         let weight = weights[i];
-        let step = handle_in_arc(
+        work = handle_in_arc(
             arcs, weights, nodes, labels, heap, pool, work, v, tail, weight, limit,
-        );
-        match step {
-            Contracted::Went(next) => {
-                work = next;
-            }
-            Contracted::Refused(number) => {
-                return Contracted::Refused(number);
-            }
-        }
+        )?;
     }
-    Contracted::Went(work)
+    Ok(work)
 }
 
 // Adds the shortcuts of v and removes its arcs.
@@ -227,22 +204,14 @@ pub fn contract_node(
     work: Work,
     v: u32,
     limit: u32,
-) -> Contracted
+) -> Result<Work, Refusal>
     requires { (n : ℕ) × (g : List Arc) × Contractible (lent arcs.old weights.old nodes.old labels.old heap.old) pool work v n g }
     ensures { Contracts (lent arcs.old weights.old nodes.old labels.old heap.old)
         (lent arcs.new weights.new nodes.new labels.new heap.new) pool work v limit result }
 {
-    let step = handle_shortcuts(arcs, weights, nodes, labels, heap, pool, work, v, limit);
-    match step {
-        Contracted::Went(handled) => {
-            let state = handled.state;
-            let search = handled.search;
-            let rest = graph::preparation_graph::disconnect(arcs, nodes, state, v);
-            Contracted::Went(Work {
-                state: rest,
-                search,
-            })
-        }
-        Contracted::Refused(number) => Contracted::Refused(number),
-    }
+    let Work { state, search } = handle_shortcuts(
+        arcs, weights, nodes, labels, heap, pool, work, v, limit,
+    )?;
+    let state = disconnect(arcs, nodes, state, v);
+    Ok(Work { state, search })
 }

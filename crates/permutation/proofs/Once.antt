@@ -9,7 +9,7 @@ use native.Mathlib.Omega.{arith}
 use native.Mathlib.Decide.{ℕ_discrete}
 use lib.Dec.{eqb, ltb}
 use lib.ListN.{length, get_or, take, set, length-set}
-use lib.Seq.{take-suc, get_or-take, length-take-le, get_or-set_same, get_or-set_other}
+use lib.Seq.{take_all, take-suc, get_or-take, length-take-le, get_or-set_same, get_or-set_other}
 use borrow.Author.Tests.{ltb-true, lt-ltb, eq-eqb, ne_eqb}
 use Rattle.rules.specs.Lists.{Decides, In, all, any, distinct}
 use Rattle.rules.proofs.Cases.{on_test}
@@ -44,41 +44,36 @@ pub record Seen (n : ℕ) (xs : List ℕ) (seen : List Bool) (i : ℕ) : Type 0 
   pub once : each_once n (take i xs) ≡ true
   pub flags : (v : ℕ) → v < n → get_or seen v false ≡ any (eqb v) (take i xs)
 
-module _ (n : ℕ) (xs : List ℕ) (few : n ≤ 1024) (enough : n ≤ length xs) where
+module _ (n : ℕ) (xs : List ℕ) (few : n ≤ 1024) (long : length xs ≡ n) where
   pub none_seen : (seen : List Bool) → length seen ≡ 1024 → ((v : ℕ) → v < 1024 → get_or seen v false ≡ false) → Seen n xs seen 0
   unfolding each_once all distinct any
-  none_seen seen long clear = record { long = long; passed = omega arith; once = refl; flags = λ v below. clear v (omega arith) }
+  none_seen seen all clear = record { long = all; passed = omega arith; once = refl; flags = λ v below. clear v (omega arith) }
 
-  pub all_seen : (seen : List Bool) (i : ℕ) → Seen n xs seen i → n ≤ i → true ≡ each_once n (take n xs)
-  all_seen seen i s done =
-      let last : i ≡ n = omega (arith, s.passed) in
-      sym (rw last at s.once)
+  pub all_seen : (seen : List Bool) (i : ℕ) → Seen n xs seen i → n ≤ i → true ≡ each_once n xs
+  all_seen seen i s done = sym (rw (take_all i xs (omega arith)) at s.once)
 
   module _ (seen : List Bool) (i : ℕ) (s : Seen n xs seen i) (more : i < n) where
     abbrev here : ℕ
     here = get_or xs i 0
 
-    pub too_high : n ≤ here → false ≡ each_once n (take n xs)
+    pub too_high : n ≤ here → false ≡ each_once n xs
     unfolding each_once
     too_high high =
-        on_test (each_once n (take n xs))
+        on_test (each_once n xs)
         (λ t.
-        let below = ltb-true (get_or (take n xs) i 0) n (all_each (λ v. ltb v n) (take n xs) (and_both (all (λ v. ltb v n) (take n xs)) (distinct (take n xs)) t).0
-        (get_or (take n xs) i 0) (get_d_in (take n xs) i 0 (omega (arith, length-take-le n xs enough)))) in
-        absurd (omega (arith, below, get_or-take n xs i 0 more)))
+        let below = ltb-true here n (all_each (λ v. ltb v n) xs (and_both (all (λ v. ltb v n) xs) (distinct xs) t).0 here (get_d_in xs i 0 (omega arith))) in
+        absurd (omega (arith, below)))
         (λ f. sym f)
 
-    pub named_twice : here < n → get_or seen here false ≡ true → false ≡ each_once n (take n xs)
+    pub named_twice : here < n → get_or seen here false ≡ true → false ≡ each_once n xs
     unfolding each_once
     named_twice below flag =
-        on_test (each_once n (take n xs))
+        on_test (each_once n xs)
         (λ t.
-        let differ = (distinct_decides (take n xs) 0).0 (and_both (all (λ v. ltb v n) (take n xs)) (distinct (take n xs)) t).1 in
+        let differ = (distinct_decides xs 0).0 (and_both (all (λ v. ltb v n) xs) (distinct xs) t).1 in
         let w = in_get_d here (take i xs) 0 (any_same here (take i xs) (sym (s.flags here below) ∙ flag)) in
-        let long = length-take-le n xs enough in
         let short = length-take-le i xs (omega arith) in
-        let same = differ w.0 i (omega (arith, w.1)) (omega (arith, long))
-        (get_or-take n xs w.0 0 (omega (arith, w.1)) ∙ sym (get_or-take i xs w.0 0 (omega (arith, w.1))) ∙ w.2 ∙ sym (get_or-take n xs i 0 more)) in
+        let same = differ w.0 i (omega (arith, w.1)) (omega arith) (sym (get_or-take i xs w.0 0 (omega (arith, w.1))) ∙ w.2) in
         absurd (omega (arith, w.1)))
         (λ f. sym f)
 

@@ -11,18 +11,13 @@ pub fn each_once(n: usize, numbers: &[u32]) -> bool
     requires { (n ≤ max_nodes) × (n ≤ length numbers.now) }
     ensures { result ≡ each_once n (take n numbers.now) }
 {
-    let mut seen = [false; 1024];
-    let mut i = 0;
-    while i < n {
-        let v = numbers[i] as usize;
-        if n <= v {
-            return false;
-        }
-        if seen[v] {
+    let mut seen = [false; rules::MAX_NODES];
+    for number in &numbers[..n] {
+        let v = *number as usize;
+        if n <= v || seen[v] {
             return false;
         }
         seen[v] = true;
-        i += 1;
     }
     true
 }

@@ -19,6 +19,9 @@ ghost use Rattle.calc_paths.specs.Many.{calc_paths};
 ghost use Rattle.calc_paths.specs.Filling.{columns_of, paths_call, answered};
 ghost use Rattle.text.specs.Wrote.{Wrote};
 
+use halves::Ends;
+use tables::{FastGraph, Table};
+
 // The build in a given order.
 #[unsafe(no_mangle)]
 pub extern "C" fn ratmanoep_build_with_order(
@@ -56,7 +59,7 @@ pub extern "C" fn ratmanoep_build_with_order(
         (table_of bwd_starts.old bwd_bases.old bwd_neighbours.old bwd_weights.old bwd_ins.old bwd_outs.old))
         (lengths arcs.old weights.old nodes.old labels.old heap.old)) limit pool) }
 {
-    fast_graph_builder::build_with_order(
+    rules::number(fast_graph_builder::build_with_order(
         n,
         tails,
         heads,
@@ -82,7 +85,7 @@ pub extern "C" fn ratmanoep_build_with_order(
         nodes,
         labels,
         heap,
-    )
+    ))
 }
 
 // The table check.
@@ -105,22 +108,27 @@ pub extern "C" fn ratmanoep_check_tables(
 ) -> u32
     ensures { result ≡ check_refusal n (lent ranks.now (columns fwd_starts.now fwd_bases.now fwd_neighbours.now fwd_weights.now fwd_ins.now fwd_outs.now) (columns bwd_starts.now bwd_bases.now bwd_neighbours.now bwd_weights.now bwd_ins.now bwd_outs.now)) }
 {
-    tables::check_tables(
-        n,
+    let g = FastGraph {
+        num_nodes: n,
         ranks,
-        fwd_starts,
-        fwd_bases,
-        fwd_neighbours,
-        fwd_weights,
-        fwd_ins,
-        fwd_outs,
-        bwd_starts,
-        bwd_bases,
-        bwd_neighbours,
-        bwd_weights,
-        bwd_ins,
-        bwd_outs,
-    )
+        fwd: Table {
+            starts: fwd_starts,
+            bases: fwd_bases,
+            neighbours: fwd_neighbours,
+            weights: fwd_weights,
+            ins: fwd_ins,
+            outs: fwd_outs,
+        },
+        bwd: Table {
+            starts: bwd_starts,
+            bases: bwd_bases,
+            neighbours: bwd_neighbours,
+            weights: bwd_weights,
+            ins: bwd_ins,
+            outs: bwd_outs,
+        },
+    };
+    rules::number(tables::check_tables(&g))
 }
 
 // The query: number and weight go to lent numbers, and the walk to the front of the path; returns how many places that is.
@@ -154,32 +162,36 @@ pub extern "C" fn ratmanoep_calc_path(
 ) -> usize
     ensures { Tells (query (query_call n (lent ranks.now (columns fwd_starts.now fwd_bases.now fwd_neighbours.now fwd_weights.now fwd_ins.now fwd_outs.now) (columns bwd_starts.now bwd_bases.now bwd_neighbours.now bwd_weights.now bwd_ins.now bwd_outs.now)) sources.now source_offsets.now targets.now target_offsets.now path.old (length fwd_labels.old ∷ length bwd_labels.old ∷ length fwd_heap.old ∷ length bwd_heap.old ∷ []))) (answer number.new weight.new result) path.new }
 {
-    query::fill_path(
-        n,
+    let g = FastGraph {
+        num_nodes: n,
         ranks,
-        fwd_starts,
-        fwd_bases,
-        fwd_neighbours,
-        fwd_weights,
-        fwd_ins,
-        fwd_outs,
-        bwd_starts,
-        bwd_bases,
-        bwd_neighbours,
-        bwd_weights,
-        bwd_ins,
-        bwd_outs,
-        sources,
-        source_offsets,
-        targets,
-        target_offsets,
-        path,
-        number,
-        weight,
-        fwd_labels,
-        bwd_labels,
-        fwd_heap,
-        bwd_heap,
+        fwd: Table {
+            starts: fwd_starts,
+            bases: fwd_bases,
+            neighbours: fwd_neighbours,
+            weights: fwd_weights,
+            ins: fwd_ins,
+            outs: fwd_outs,
+        },
+        bwd: Table {
+            starts: bwd_starts,
+            bases: bwd_bases,
+            neighbours: bwd_neighbours,
+            weights: bwd_weights,
+            ins: bwd_ins,
+            outs: bwd_outs,
+        },
+    };
+    let sources = Ends {
+        nodes: sources,
+        offsets: source_offsets,
+    };
+    let targets = Ends {
+        nodes: targets,
+        offsets: target_offsets,
+    };
+    query::fill_path(
+        &g, &sources, &targets, path, number, weight, fwd_labels, bwd_labels, fwd_heap, bwd_heap,
     )
 }
 
@@ -213,32 +225,30 @@ pub extern "C" fn ratmanoep_calc_paths(
 ) -> u32
     ensures { answered result (columns_of numbers.new weights.new lengths.new paths.new) ≡ calc_paths (paths_call n (lent ranks.now (columns fwd_starts.now fwd_bases.now fwd_neighbours.now fwd_weights.now fwd_ins.now fwd_outs.now) (columns bwd_starts.now bwd_bases.now bwd_neighbours.now bwd_weights.now bwd_ins.now bwd_outs.now)) sources.now targets.now (columns_of numbers.old weights.old lengths.old paths.old) (length fwd_labels.old ∷ length bwd_labels.old ∷ length fwd_heap.old ∷ length bwd_heap.old ∷ [])) }
 {
-    calc_paths::calc_paths(
-        n,
+    let g = FastGraph {
+        num_nodes: n,
         ranks,
-        fwd_starts,
-        fwd_bases,
-        fwd_neighbours,
-        fwd_weights,
-        fwd_ins,
-        fwd_outs,
-        bwd_starts,
-        bwd_bases,
-        bwd_neighbours,
-        bwd_weights,
-        bwd_ins,
-        bwd_outs,
-        sources,
-        targets,
-        numbers,
-        weights,
-        lengths,
-        paths,
-        fwd_labels,
-        bwd_labels,
-        fwd_heap,
+        fwd: Table {
+            starts: fwd_starts,
+            bases: fwd_bases,
+            neighbours: fwd_neighbours,
+            weights: fwd_weights,
+            ins: fwd_ins,
+            outs: fwd_outs,
+        },
+        bwd: Table {
+            starts: bwd_starts,
+            bases: bwd_bases,
+            neighbours: bwd_neighbours,
+            weights: bwd_weights,
+            ins: bwd_ins,
+            outs: bwd_outs,
+        },
+    };
+    rules::number(calc_paths::calc_paths(
+        &g, sources, targets, numbers, weights, lengths, paths, fwd_labels, bwd_labels, fwd_heap,
         bwd_heap,
-    )
+    ))
 }
 
 // The record program: its lines go to the front of what is lent, as far as there is room; returns their length.

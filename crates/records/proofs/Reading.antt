@@ -2,10 +2,11 @@
 use mathlib.Core.Bool.{true}
 use mathlib.Core.List.{List, [], ◌∷◌}
 use mathlib.Core.Path.{◌≡◌, refl, sym, ap, ◌∙◌}
-use Prim.Native.Nat.{ℕ, suc, ◌+◌, ◌-◌, ◌*◌, ◌≤◌, ◌<◌}
+use Prim.Native.Nat.{ℕ, suc, ◌+◌, ◌-◌, ◌≤◌, ◌<◌}
 use native.Mathlib.Omega.{arith}
 use native.Mathlib.Nat.{add-zero}
 use native.Mathlib.Numerals.{add-one}
+use Rattle.std.specs.Int.{w16, w32, from_le_bytes}
 use lib.ListN.{length, get_or, drop, length-drop, get_or-eq_default}
 use lib.Seq.{get_or-drop}
 use Rattle.rules.specs.Program.{record_length, kind_of, whole, u16_at, u32_at}
@@ -13,25 +14,22 @@ use Rattle.rules.proofs.Cases.{on_test}
 use Rattle.rules.proofs.ProgramFuel.{whole_tag, whole_is, whole_takes, whole_fits}
 use Rattle.records.specs.Kinds.{whole_kind, Below}
 
--- Numbers.
-pub past_end : (xs : List ℕ) (at : ℕ) → length xs ≤ at → Below 256 (get_or xs at 0) 0
-past_end xs at h = record { is = sym (get_or-eq_default xs 0 {n = at} h); low = omega arith }
-
-pub u16_of : (xs : List ℕ) (at : ℕ) {a b : ℕ} → Below 256 (get_or xs at 0) a → Below 256 (get_or xs (at + 1) 0) b → Below 65536 (u16_at xs at) (a + 256 * b)
+-- Numbers, by the bytes that were read.
+pub u16_of : (xs : List ℕ) (at : ℕ) {a b n : ℕ} → a ≡ get_or xs at 0 → b ≡ get_or xs (at + 1) 0 → ((i : ℕ) → get_or xs i 0 < 256) →
+    n ≡ from_le_bytes w16 (a ∷ (b ∷ [])) → Below 65536 (u16_at xs at) n
 unfolding u16_at
-u16_of xs at p q =
-    record { is = omega (arith, p.is, q.is, ap (λ (k : ℕ). get_or xs k 0) (add-one at)); low = omega (arith, p.low, q.low) }
+u16_of xs at p q small e =
+    let next : get_or xs (at + 1) 0 ≡ get_or xs (suc at) 0 = ap (λ (k : ℕ). get_or xs k 0) (add-one at) in
+    record { is = omega (arith, p, q, e, next); low = omega (arith, p, q, e, small at, small (at + 1)) }
 
-pub u32_of : (xs : List ℕ) (at : ℕ) {a b : ℕ} → Below 65536 (u16_at xs at) a → Below 65536 (u16_at xs (at + 2)) b → a + 65536 * b ≡ u32_at xs at
-unfolding u32_at
-u32_of xs at p q =
-    let two : at + 2 ≡ suc (suc at) = omega arith in
-    omega (arith, p.is, q.is, ap (λ (k : ℕ). u16_at xs k) two)
-
--- a kind beyond 5 has no length
-pub no_length : (kind : ℕ) → 6 ≤ kind → 0 ≡ record_length kind
-unfolding record_length
-no_length kind h = sym (get_or-eq_default (0 ∷ 5 ∷ 11 ∷ 5 ∷ 7 ∷ 7 ∷ []) 0 {n = kind} (omega arith))
+pub u32_of : (xs : List ℕ) (at : ℕ) {a b c d n : ℕ} → a ≡ get_or xs at 0 → b ≡ get_or xs (at + 1) 0 → c ≡ get_or xs (at + 2) 0 → d ≡ get_or xs (at + 3) 0 →
+    n ≡ from_le_bytes w32 (a ∷ (b ∷ (c ∷ (d ∷ [])))) → n ≡ u32_at xs at
+unfolding u32_at u16_at
+u32_of xs at p q r s e =
+    let one : get_or xs (at + 1) 0 ≡ get_or xs (suc at) 0 = ap (λ (k : ℕ). get_or xs k 0) (omega arith) in
+    let two : get_or xs (at + 2) 0 ≡ get_or xs (suc (suc at)) 0 = ap (λ (k : ℕ). get_or xs k 0) (omega arith) in
+    let three : get_or xs (at + 3) 0 ≡ get_or xs (suc (suc (suc at))) 0 = ap (λ (k : ℕ). get_or xs k 0) (omega arith) in
+    omega (arith, p, q, r, s, e, one, two, three)
 
 module _ (input : List ℕ) (at : ℕ) where
   abbrev bs : List ℕ

@@ -6,30 +6,33 @@ ghost use Rattle.rules.specs.Program.{record_length, u16_at, u32_at};
 ghost use Rattle.records.specs.Kinds.{whole_kind, Below};
 
 // Past the end a byte is 0.
-fn byte_at(input: &[u8], at: usize) -> u32
-    ensures { Below 256 (get_or input.now «at» 0) result }
+fn byte_at(input: &[u8], at: usize) -> u8
+    ensures { result ≡ get_or input.now «at» 0 }
 {
-    if input.len() <= at {
-        return 0;
-    }
-    input[at] as u32
+    input.get(at).copied().unwrap_or(0)
 }
 
 pub fn u16_at(input: &[u8], at: usize) -> u32
     requires { «at» + 1 < 2 ^ 64 }
     ensures { Below 65536 (u16_at input.now «at») result }
 {
-    byte_at(input, at) + 256 * byte_at(input, at + 1)
+    u32::from(u16::from_le_bytes([byte_at(input, at), byte_at(input, at + 1)]))
 }
 
 pub fn u32_at(input: &[u8], at: usize) -> u32
     requires { «at» + 3 < 2 ^ 64 }
     ensures { result ≡ u32_at input.now «at» }
 {
-    u16_at(input, at) + 65536 * u16_at(input, at + 2)
+    u32::from_le_bytes([
+        byte_at(input, at),
+        byte_at(input, at + 1),
+        byte_at(input, at + 2),
+        byte_at(input, at + 3),
+    ])
 }
 
 // 0 for a wrong kind.
+#[tactic(auto, unfolding(rules::specs::Program::record_length))]
 fn record_length(kind: u8) -> usize
     ensures { result ≡ record_length kind }
 {
@@ -44,7 +47,8 @@ fn record_length(kind: u8) -> usize
     }
 }
 
-// The kind of the record that stands at an offset, or 0 where none stands there whole.
+// The kind of the record that stands at an offset, or 0 where none stands there whole. It stays a byte and no `Option`: document 01 asks
+// for a match on the kind byte, with ranges for the refused kinds, and 0 is one of them.
 pub fn kind_at(input: &[u8], at: usize) -> u8
     ensures { result ≡ whole_kind (drop «at» input.now) }
 {

@@ -4,10 +4,14 @@
 ghost use Rattle.std.specs.Prelude.{Bool, ◌||◌, List, [], ◌∷◌, ◌≡◌, ℕ, ◌≤◌};
 ghost use Rattle.rules.specs.Columns.{Hierarchy};
 ghost use Rattle.rules.specs.Refusals.{short, build_scratch};
+ghost use Rattle.rules.specs.Refused.{code};
 ghost use Rattle.input_graph.specs.Given.{links};
 ghost use Rattle.refusals.specs.Measures.{uneven_by, lent_short_by, Refuses};
 
+use rules::Refusal;
+
 // Whether a table of these lengths has too few starts for n nodes, or columns of unequal length.
+#[tactic(auto, unfolding(crate::specs::Measures::uneven_by))]
 fn uneven(
     n: usize,
     starts: usize,
@@ -19,22 +23,11 @@ fn uneven(
 ) -> bool
     ensures { result ≡ uneven_by n starts bases neighbours weights ins outs }
 {
-    if starts <= n {
-        return true;
-    }
-    if neighbours != bases {
-        return true;
-    }
-    if weights != bases {
-        return true;
-    }
-    if ins != bases {
-        return true;
-    }
-    outs != bases
+    starts <= n || neighbours != bases || weights != bases || ins != bases || outs != bases
 }
 
 // Whether scratch of these lengths is below its formulas. No length reaches six times a pool of 2^62, so that nothing wraps.
+#[tactic(auto, unfolding(rules::specs::Refusals::short, rules::specs::Refusals::build_scratch))]
 fn scratch_short(
     n: usize,
     pool: u64,
@@ -47,25 +40,16 @@ fn scratch_short(
     requires { n ≤ 1024 }
     ensures { result ≡ short (build_scratch n pool) (arcs ∷ weights ∷ nodes ∷ labels ∷ heap ∷ []) }
 {
-    if 3074457345618258602 < pool {
-        return true;
-    }
-    if (arcs as u64) < 6 * pool {
-        return true;
-    }
-    if (weights as u64) < pool {
-        return true;
-    }
-    if nodes < 4 * n {
-        return true;
-    }
-    if labels < 2 * n {
-        return true;
-    }
-    (heap as u64) < 2 * (pool + 1)
+    3074457345618258602 < pool
+        || (arcs as u64) < 6 * pool
+        || (weights as u64) < pool
+        || nodes < 4 * n
+        || labels < 2 * n
+        || (heap as u64) < 2 * (pool + 1)
 }
 
 // Row 9, by the lengths of what is lent.
+#[tactic(auto, unfolding(crate::specs::Measures::lent_short_by))]
 pub fn lent_short(
     n: usize,
     pool: u64,
@@ -92,47 +76,44 @@ pub fn lent_short(
     ensures { result ≡ lent_short_by n pool ranks (uneven_by n fwd_starts fwd_bases fwd_neighbours fwd_weights fwd_ins fwd_outs)
         (uneven_by n bwd_starts bwd_bases bwd_neighbours bwd_weights bwd_ins bwd_outs) (arcs ∷ weights ∷ nodes ∷ labels ∷ heap ∷ []) }
 {
-    if ranks < n {
-        return true;
-    }
-    if uneven(
-        n,
-        fwd_starts,
-        fwd_bases,
-        fwd_neighbours,
-        fwd_weights,
-        fwd_ins,
-        fwd_outs,
-    ) {
-        return true;
-    }
-    if uneven(
-        n,
-        bwd_starts,
-        bwd_bases,
-        bwd_neighbours,
-        bwd_weights,
-        bwd_ins,
-        bwd_outs,
-    ) {
-        return true;
-    }
-    scratch_short(n, pool, arcs, weights, nodes, labels, heap)
+    ranks < n
+        || uneven(
+            n,
+            fwd_starts,
+            fwd_bases,
+            fwd_neighbours,
+            fwd_weights,
+            fwd_ins,
+            fwd_outs,
+        )
+        || uneven(
+            n,
+            bwd_starts,
+            bwd_bases,
+            bwd_neighbours,
+            bwd_weights,
+            bwd_ins,
+            bwd_outs,
+        )
+        || scratch_short(n, pool, arcs, weights, nodes, labels, heap)
 }
 
-// The lowest of rows 1 to 8 that is met, or 0.
-pub fn refusal(n: usize, tails: &[u32], heads: &[u32], weights: &[u32], order: &[u32]) -> u32
-    ensures { Refuses n (links tails.now heads.now weights.now) order.now result }
+// The lowest of rows 1 to 8 that is met.
+pub fn refusal(
+    n: usize,
+    tails: &[u32],
+    heads: &[u32],
+    weights: &[u32],
+    order: &[u32],
+) -> Result<(), Refusal>
+    ensures { Refuses n (links tails.now heads.now weights.now) order.now (code result) }
 {
-    let number = input_graph::check_graph(n, tails, heads, weights);
-    if number != 0 {
-        return number;
-    }
+    input_graph::check_graph(n, tails, heads, weights)?;
     if order.len() != n {
-        return 7;
+        return Err(Refusal::OrderLength);
     }
     if permutation::each_once(n, order) {
-        return 0;
+        return Ok(());
     }
-    8
+    Err(Refusal::Order)
 }

@@ -26,7 +26,7 @@ pub struct Found {
     pub search: WitnessSearch,
 }
 
-// Where one step leaves a search, and whether it goes on.
+// Where one step leaves a search, and whether it goes on. Its numbers are wanted either way: ControlFlow would hold them twice.
 #[derive(Clone, Copy)]
 pub struct Progress {
     pub len: usize,
@@ -403,10 +403,8 @@ fn clear_labels(labels: &mut [u64], num_nodes: usize)
     requires { 2 * num_nodes ≤ length labels.old }
     ensures { Stamped num_nodes labels.new 0 }
 {
-    let mut v = 0;
-    while v < num_nodes {
+    for v in 0..num_nodes {
         labels[2 * v + 1] = 0;
-        v += 1;
     }
 }
 

@@ -6,7 +6,7 @@ use native.Mathlib.Omega.{arith}
 use native.Mathlib.Nat.{add-zero}
 use native.Mathlib.Numerals.{add-one}
 use lib.ListN.{length, get_or, set, take, drop, length-append, take-append-drop}
-use lib.Seq.{set_out, take-suc, length-take-le}
+use lib.Seq.{set_out, take-suc}
 use Rattle.rules.specs.Lists.{written, flat_map}
 use Rattle.rules.specs.Program.{word_built, word_route, word_none, newline, space, colon, decimal, line, counts_line, route_line}
 use Rattle.rules.proofs.Prefixes.{written_parts, flat_map_append}
@@ -71,9 +71,6 @@ module _ (n : ℕ) (high : 10 ≤ n) where
 -- The front of a list, and one more: of bytes, and of what each gives.
 pub bytes_next : (xs : List ℕ) (i : ℕ) → i < length xs → take (i + 1) xs ≡ take i xs ++ (get_or xs i 0 ∷ [])
 bytes_next xs i h = rw (add-one i) (take-suc xs i 0 h)
-
-pub byte_fits : {out out' : List ℕ} {at end i : ℕ} (xs : List ℕ) (b : ℕ) → Fits at xs → i < length xs → Wrote out at (take i xs) end out' → Fits end (b ∷ [])
-byte_fits {i = i} xs b h inside p = record { fits = omega (arith, h.fits, p.end, length-take-le i xs (omega arith)) }
 
 pub front_next : (f : ℕ → List ℕ) (xs : List ℕ) (i : ℕ) → i < length xs → flat_map f (take (i + 1) xs) ≡ flat_map f (take i xs) ++ f (get_or xs i 0)
 unfolding flat_map

@@ -1,5 +1,5 @@
 // The lines of the record program, written into a lent buffer from a place on, as far as there is room. Each function returns the place after
-// what it wrote.
+// what it wrote. The buffer and the place stay two parameters: of a struct that held both each contract would say what its field lends.
 #![tactic(auto)]
 
 ghost use Rattle.std.specs.Prelude.{[], ◌∷◌, ◌++◌};
@@ -23,10 +23,8 @@ fn put_word(out: &mut [u8], at: usize, word: &[u8]) -> usize
     ensures { Wrote out.old «at» word.now result out.new }
 {
     let mut end = at;
-    let mut i = 0;
-    while i < word.len() {
-        end = put(out, end, word[i]);
-        i += 1;
+    for byte in word {
+        end = put(out, end, *byte);
     }
     end
 }
@@ -37,10 +35,10 @@ fn put_decimal(out: &mut [u8], at: usize, n: u64) -> usize
     ensures { Wrote out.old «at» (decimal n) result out.new }
 {
     if n < 10 {
-        return put(out, at, 48 + n as u8);
+        return put(out, at, b'0' + n as u8);
     }
     let end = put_decimal(out, at, n / 10);
-    put(out, end, 48 + (n % 10) as u8)
+    put(out, end, b'0' + (n % 10) as u8)
 }
 
 pub fn too_long(out: &mut [u8], at: usize) -> usize
@@ -97,10 +95,8 @@ fn put_nodes(out: &mut [u8], at: usize, walk: &[u32]) -> usize
     ensures { Wrote out.old «at» (flat_map (λ u. space ∷ decimal u) walk.now) result out.new }
 {
     let mut end = at;
-    let mut i = 0;
-    while i < walk.len() {
-        end = put_node(out, end, walk[i]);
-        i += 1;
+    for node in walk {
+        end = put_node(out, end, *node);
     }
     end
 }
@@ -110,7 +106,7 @@ pub fn route_line(out: &mut [u8], at: usize, weight: u64, walk: &[u32]) -> usize
     requires { Fits «at» (route_line weight walk.now) }
     ensures { Wrote out.old «at» (route_line weight walk.now) result out.new }
 {
-    if walk.len() == 0 {
+    if walk.is_empty() {
         return put_word(out, at, b"none\n");
     }
     let end = put_word(out, at, b"route ");

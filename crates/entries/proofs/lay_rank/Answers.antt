@@ -2,8 +2,5 @@
 use Rattle.entries.proofs.Laying.{writable_onward, rank_laid}
 use Rattle.entries.proofs.lay_rank.Goals as goal
 
-pub write_entries-requires : goal.write_entries-requires
-write_entries-requires c = let p = c.requires in (p.0, p.1, writable_onward p.2)
-
 pub returns : goal.returns
 returns c = λ nodes list p ls l lent is rank count node arcs. rank_laid p ls l lent is rank count node arcs _ _ _ _ (c.write_entries.ensures nodes list (writable_onward p))

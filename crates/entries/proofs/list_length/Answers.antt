@@ -14,29 +14,8 @@ left c = let p = c.requires.1 in c.loop-place.invariant p.0 p.1
 room : (c : In-loop-place) → (6 * c.loop-place.place + 6 ≤ length c.args.arcs.now) × (c.args.side < 2)
 room c = (walk_room (let p = c.requires.1 in c.loop-place.invariant p.0 p.1).walk c.loop-place-test.true, c.requires.0)
 
-pub loop-place-init : goal.loop-place-init
-loop-place-init c = λ places walk. record { rest = places; walk = walk; sum = omega arith }
-
-pub overflow_cast-place : goal.overflow_cast-place
-overflow_cast-place c = omega (arith, room (goal.at.overflow_cast-place c).In-loop-place)
-
-pub overflow_mul-place : goal.overflow_mul-place
-overflow_mul-place c = omega (arith, room (goal.at.overflow_mul-place c).In-loop-place)
-
-pub overflow_add-place : goal.overflow_add-place
-overflow_add-place c = omega (arith, room (goal.at.overflow_add-place c).In-loop-place)
-
-pub overflow_add-place-in-loop-place : goal.overflow_add-place-in-loop-place
-overflow_add-place-in-loop-place c = omega (arith, room (goal.at.overflow_add-place-in-loop-place c).In-loop-place)
-
-pub offset_bounds-arcs-place : goal.offset_bounds-arcs-place
-offset_bounds-arcs-place c = omega (arith, room (goal.at.offset_bounds-arcs-place c).In-loop-place)
-
 pub bounds-arcs-place : goal.bounds-arcs-place
 bounds-arcs-place c = omega (arith, room (goal.at.bounds-arcs-place c).In-loop-place)
-
-pub overflow_add-count : goal.overflow_add-count
-overflow_add-count c = omega (arith, room (goal.at.overflow_add-count c).In-loop-place, (one_counted (left (goal.at.overflow_add-count c).At-loop-place) c.loop-place-test.true).sum, c.requires.1.1.short)
 
 pub loop-place-smaller : goal.loop-place-smaller
 loop-place-smaller c = walk_nearer (left (goal.at.loop-place-smaller c).At-loop-place).walk c.loop-place-test.true

@@ -1,6 +1,5 @@
 -- The invariant: what was written and what is left come to the whole.
 use mathlib.Core.List.{List}
-use mathlib.Core.Path.{◌≡◌}
 use Prim.Native.Nat.{ℕ, ◌+◌}
 use lib.ListN.{length}
 use Rattle.rules.specs.Graph.{Arc}
@@ -13,8 +12,7 @@ use Rattle.entries.proofs.write_entries.Given as goal
 
 abbrev pub invariant-loop-place : goal.invariant-loop-place
 invariant-loop-place l =
-    (length l.bases ≡ length l.initial.bases) × (length l.neighbours ≡ length l.initial.neighbours) × (length l.entry_weights ≡ length l.initial.entry_weights) × (length l.centres ≡ length l.initial.centres) ×
-    ((nodes : List ℕ) (list : List Arc) → Writable (memory l.arcs nodes) l.weights l.side l.first list (four l.initial.bases l.initial.neighbours l.initial.entry_weights l.initial.centres) → Written (memory l.arcs nodes) l.weights l.side l.place l.v l.e (four l.initial.bases l.initial.neighbours l.initial.entry_weights l.initial.centres) (four l.bases l.neighbours l.entry_weights l.centres) list)
+    (nodes : List ℕ) (list : List Arc) → Writable (memory l.arcs nodes) l.weights l.side l.first list (four l.initial.bases l.initial.neighbours l.initial.entry_weights l.initial.centres) → Written (memory l.arcs nodes) l.weights l.side l.place l.v l.e (four l.initial.bases l.initial.neighbours l.initial.entry_weights l.initial.centres) (four l.bases l.neighbours l.entry_weights l.centres) list
 
 abbrev pub decreases-loop-place : goal.decreases-loop-place
 decreases-loop-place l =

@@ -10,17 +10,11 @@ write_ranks-requires c = let q = c.requires in (_, ending_inverse q.2)
 pub overflow_cast-fwd_starts : goal.overflow_cast-fwd_starts
 overflow_cast-fwd_starts c = omega (arith, small_fwd c.requires.2)
 
-pub offset_bounds-fwd_starts-n : goal.offset_bounds-fwd_starts-n
-offset_bounds-fwd_starts-n c = omega (arith, fwd_start_there c.requires.2)
-
 pub bounds-fwd_starts-n : goal.bounds-fwd_starts-n
 bounds-fwd_starts-n c = omega (arith, fwd_start_there c.requires.2)
 
 pub overflow_cast-bwd_starts : goal.overflow_cast-bwd_starts
 overflow_cast-bwd_starts c = omega (arith, small_bwd c.requires.2)
-
-pub offset_bounds-bwd_starts-n : goal.offset_bounds-bwd_starts-n
-offset_bounds-bwd_starts-n c = omega (arith, bwd_start_there c.requires.2)
 
 pub bounds-bwd_starts-n : goal.bounds-bwd_starts-n
 bounds-bwd_starts-n c = omega (arith, bwd_start_there c.requires.2)

@@ -1,7 +1,4 @@
 -- The invariant: the first e entries are finished.
-use mathlib.Core.Path.{◌≡◌}
-use Prim.Native.Nat.{◌-◌, ◌≤◌}
-use lib.ListN.{length}
 use Rattle.rules.specs.Columns.{Side}
 use Rattle.rules.specs.Refusals.{BuildCall}
 use Rattle.rules.specs.Build.{Building}
@@ -11,9 +8,4 @@ use Rattle.finish.proofs.finish_table.Given as goal
 
 abbrev pub invariant-loop-e : goal.invariant-loop-e
 invariant-loop-e l =
-    (length l.ins ≡ length l.initial.ins) × (length l.outs ≡ length l.initial.outs) × (l.e ≤ l.count) ×
-    ((k : BuildCall) (b : Building) (s : Side) → Finishing k b s l.count l.ranks l.fwd_starts l.fwd_neighbours l.bwd_starts l.bwd_neighbours l.tails l.heads l.initial.ins l.initial.outs → SoFar b s l.initial.ins l.initial.outs l.ins l.outs l.e)
-
-abbrev pub decreases-loop-e : goal.decreases-loop-e
-decreases-loop-e l =
-    l.count - l.e
+    (k : BuildCall) (b : Building) (s : Side) → Finishing k b s l.count l.ranks l.fwd_starts l.fwd_neighbours l.bwd_starts l.bwd_neighbours l.tails l.heads l.initial.ins l.initial.outs → SoFar b s l.initial.ins l.initial.outs l.ins l.outs l.e

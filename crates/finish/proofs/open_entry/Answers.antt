@@ -6,9 +6,6 @@ use Rattle.finish.proofs.open_entry.Goals as goal
 pub returns-then-centre-eq-INVALID : goal.returns-then-centre-eq-INVALID
 returns-then-centre-eq-INVALID c = λ k b s x p. plain p c.if-centre-eq-INVALID.true
 
-pub offset_bounds-ranks-centre : goal.offset_bounds-ranks-centre
-offset_bounds-ranks-centre c = let p = c.requires.4 in omega (arith, centre_below p c.if-centre-eq-INVALID.false, ranks_room p.columns)
-
 pub bounds-ranks-centre : goal.bounds-ranks-centre
 bounds-ranks-centre c = let p = c.requires.4 in omega (arith, centre_below p c.if-centre-eq-INVALID.false, ranks_room p.columns)
 

@@ -1,31 +1,32 @@
--- A refusal's line and no more; or the counts, and the records after the build.
-use native.Mathlib.Omega.{arith}
+-- The counts, and the records after the build; or a refusal's line and no more.
+use mathlib.Core.Path.{◌≡◌, sym, ap, ◌∙◌}
+use Rattle.rules.specs.Refused.{number_of, code}
+use Rattle.rules.proofs.Refused.{some_number}
 use Rattle.gateway.proofs.Closing.{stop_fits, stop_wrote, counts_fit, onward_fits, go_wrote}
 use Rattle.gateway.proofs.after_build.Goals as goal
+use Rattle.gateway.proofs.after_build.Goals.{In-Ok, In-Err}
 
-pub refused_line-requires : goal.refused_line-requires
-refused_line-requires c = stop_fits _ _ _ _ _ c.if-refused.true c.requires.fits
+none : (c : In-Ok) → code c.args.outcome ≡ 0
+none c = ap code c.in-Ok.is
 
-pub returns-then-refused : goal.returns-then-refused
-returns-then-refused c = stop_wrote _ _ _ _ _ c.if-refused.true c.refused_line.ensures
-
-pub offset_bounds-fs-n : goal.offset_bounds-fs-n
-offset_bounds-fs-n c = omega (arith, (c.requires.small c.if-refused.false).few)
-
-pub bounds-fs-n : goal.bounds-fs-n
-bounds-fs-n c = (c.requires.small c.if-refused.false).fwd_starts
-
-pub offset_bounds-bs-n : goal.offset_bounds-bs-n
-offset_bounds-bs-n c = omega (arith, (c.requires.small c.if-refused.false).few)
-
-pub bounds-bs-n : goal.bounds-bs-n
-bounds-bs-n c = (c.requires.small c.if-refused.false).bwd_starts
+some : (c : In-Err) → code c.args.outcome ≡ 0 → ⊥
+some c e = some_number c.in-Err.refusal (sym (ap code c.in-Err.is) ∙ e)
 
 pub built_line-end-requires : goal.built_line-end-requires
-built_line-end-requires c = counts_fit _ _ _ _ _ c.if-refused.false c.requires.fits
+built_line-end-requires c = counts_fit _ _ _ _ _ (none (goal.at.built_line-end-requires c).In-Ok) c.requires.fits
 
 pub answer_all-requires : goal.answer_all-requires
-answer_all-requires c = (c.requires.small c.if-refused.false, c.requires.short, onward_fits _ _ _ _ _ c.if-refused.false c.requires.fits c.built_line-end.ensures)
+answer_all-requires c =
+    let none = none (goal.at.answer_all-requires c).In-Ok in
+    (c.requires.small none, c.requires.short, onward_fits _ _ _ _ _ none c.requires.fits c.built_line-end.ensures)
 
-pub returns : goal.returns
-returns c = go_wrote _ _ _ _ _ c.if-refused.false c.built_line-end.ensures c.answer_all.ensures
+pub refused_line-requires : goal.refused_line-requires
+refused_line-requires c =
+    rw (c.into.ensures, ← ap code c.in-Err.is) (stop_fits _ _ _ _ _ (some (goal.at.refused_line-requires c).In-Err) c.requires.fits)
+
+pub returns-in-Ok : goal.returns-in-Ok
+returns-in-Ok c = go_wrote _ _ _ _ _ (none (goal.at.returns-in-Ok c).In-Ok) c.built_line-end.ensures c.answer_all.ensures
+
+pub returns-in-Err : goal.returns-in-Err
+returns-in-Err c =
+    stop_wrote _ _ _ _ _ (some (goal.at.returns-in-Err c).In-Err) (rw (c.into.ensures, ← ap code c.in-Err.is) at c.refused_line.ensures)

@@ -4,17 +4,17 @@ use native.Mathlib.Omega.{arith}
 use Rattle.gateway.proofs.Asking.{front_long, asked}
 use Rattle.gateway.proofs.ask.Goals as goal
 
-pub slice_bounds-calc_path-end-5 : goal.slice_bounds-calc_path-end-5
-slice_bounds-calc_path-end-5 c = front_long _ 128 (omega (arith, c.requires.0.few))
+pub slice_bounds-calc_path-end : goal.slice_bounds-calc_path-end
+slice_bounds-calc_path-end c = front_long _ 128 (omega (arith, c.requires.0.few))
 
-pub slice_bounds-calc_path-end-6 : goal.slice_bounds-calc_path-end-6
-slice_bounds-calc_path-end-6 c = front_long _ 128 (omega (arith, c.requires.0.few))
+pub slice_bounds-calc_path-end-2 : goal.slice_bounds-calc_path-end-2
+slice_bounds-calc_path-end-2 c = front_long _ 128 (omega (arith, c.requires.0.few))
 
-pub slice_bounds-calc_path-end-7 : goal.slice_bounds-calc_path-end-7
-slice_bounds-calc_path-end-7 c = front_long _ 1024 (omega (arith, c.requires.0.fwd_most))
+pub slice_bounds-calc_path-end-3 : goal.slice_bounds-calc_path-end-3
+slice_bounds-calc_path-end-3 c = front_long _ 1024 (omega (arith, c.requires.0.fwd_most))
 
-pub slice_bounds-calc_path-end-8 : goal.slice_bounds-calc_path-end-8
-slice_bounds-calc_path-end-8 c = front_long _ 1024 (omega (arith, c.requires.0.bwd_most))
+pub slice_bounds-calc_path-end-4 : goal.slice_bounds-calc_path-end-4
+slice_bounds-calc_path-end-4 c = front_long _ 1024 (omega (arith, c.requires.0.bwd_most))
 
 pub returns : goal.returns
 returns c =
@@ -23,4 +23,4 @@ returns c =
     (sym (front_long _ 128 (omega (arith, c.requires.0.few))))
     (sym (front_long _ 1024 (omega (arith, c.requires.0.fwd_most))))
     (sym (front_long _ 1024 (omega (arith, c.requires.0.bwd_most))))
-    _ _ c.calc_path-count.ensures
+    _ _ c.calc_path.ensures

@@ -12,21 +12,12 @@ slice_bounds-build_with_order-end-16 c = front_long _ 128 (omega (arith, c.requi
 pub slice_bounds-build_with_order-end-17 : goal.slice_bounds-build_with_order-end-17
 slice_bounds-build_with_order-end-17 c = front_long _ 64 (omega (arith, c.requires.few))
 
-pub slice_bounds-after_build-end : goal.slice_bounds-after_build-end
-slice_bounds-after_build-end c = sym c.build_with_order-number.auto.ranks
-
-pub slice_bounds-after_build-end-2 : goal.slice_bounds-after_build-end-2
-slice_bounds-after_build-end-2 c = sym c.build_with_order-number.auto.fwd_starts
-
-pub slice_bounds-after_build-end-4 : goal.slice_bounds-after_build-end-4
-slice_bounds-after_build-end-4 c = sym c.build_with_order-number.auto.fwd_neighbours
-
 pub after_build-requires : goal.after_build-requires
 unfolding blank_table
 after_build-requires c =
     closed _ _ _ _ _ _ _ _ _ _ _ _ _ (zeroes 5952) (zeroes 992)
     (sym (front_long _ 128 (omega (arith, c.requires.few)))) (sym (front_long _ 64 (omega (arith, c.requires.few)))) (zeroes 1986)
-    _ _ c.build_with_order-number.ensures c.requires
+    _ _ c.build_with_order-outcome.ensures c.requires
 
 pub returns : goal.returns
 unfolding blank_table
@@ -35,5 +26,5 @@ returns c =
       wrote =
           followed _ _ _ _ _ _ _ _ _ _ _ _ _ (zeroes 5952) (zeroes 992)
           (sym (front_long _ 128 (omega (arith, c.requires.few)))) (sym (front_long _ 64 (omega (arith, c.requires.few)))) (zeroes 1986)
-          _ _ c.build_with_order-number.ensures c.after_build.ensures;
+          _ _ c.build_with_order-outcome.ensures c.after_build.ensures;
     }

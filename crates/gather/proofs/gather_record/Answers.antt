@@ -15,10 +15,10 @@ pub bounds-order-orders : goal.bounds-order-orders
 bounds-order-orders c = order_room _ _ _ _ _ _ c.requires.0 c.requires.1 _ c.kind_at-kind.ensures c.in-3.is
 
 pub returns-else-late : goal.returns-else-late
-returns-else-late c = link_more _ _ _ _ _ _ c.requires.0 c.requires.1 _ c.kind_at-kind.ensures c.in-2.is c.if-late.false _ _ _ c.put_link.ensures
+returns-else-late c = (omega arith, link_more _ _ _ _ _ _ c.requires.0 c.requires.1 _ c.kind_at-kind.ensures c.in-2.is c.if-late.false _ _ _ c.put_link.ensures)
 
 pub returns-in-3 : goal.returns-in-3
-returns-in-3 c = order_more _ _ _ _ _ _ c.requires.0 c.requires.1 _ c.kind_at-kind.ensures c.in-3.is _ c.u16_at.ensures.is
+returns-in-3 c = (omega arith, order_more _ _ _ _ _ _ c.requires.0 c.requires.1 _ c.kind_at-kind.ensures c.in-3.is _ c.u16_at.ensures.is)
 
 pub returns-in-0-to-1 : goal.returns-in-0-to-1
-returns-in-0-to-1 c = none_more _ _ _ _ _ _ c.requires.0 c.requires.1 _ c.kind_at-kind.ensures (λ e _. c.in-0-to-1.in-0-to-1-own.rest.0.1 e) (λ e. c.in-0-to-1.in-0-to-1-own.rest.1 e)
+returns-in-0-to-1 c = none_more _ _ _ _ _ _ c.requires.0 c.requires.1 _ c.kind_at-kind.ensures (λ e _. omega (arith, e)) (λ e. omega (arith, e))

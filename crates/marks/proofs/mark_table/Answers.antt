@@ -1,6 +1,15 @@
 -- Each column is filled.
-use Rattle.marks.proofs.Filling.{table_marked}
+use Rattle.rules.specs.Numbers.{invalid, no_weight}
+use Rattle.marks.proofs.Filling.{filled_whole, table_marked}
 use Rattle.marks.proofs.mark_table.Goals as goal
 
 pub returns : goal.returns
-returns c = table_marked _ c.fill_u32.ensures c.fill_u32-2.ensures c.fill_u32-3.ensures c.fill_u64.ensures c.fill_u32-4.ensures c.fill_u32-5.ensures
+returns c =
+    let a = c.args in
+    table_marked _
+    (filled_whole invalid a.starts.now (c.fill.ensures.after (λ _ e. e)))
+    (filled_whole invalid a.bases.now (c.fill-2.ensures.after (λ _ e. e)))
+    (filled_whole invalid a.neighbours.now (c.fill-3.ensures.after (λ _ e. e)))
+    (filled_whole no_weight a.weights.now (c.fill-4.ensures.after (λ _ e. e)))
+    (filled_whole invalid a.ins.now (c.fill-5.ensures.after (λ _ e. e)))
+    (filled_whole invalid a.outs.now (c.fill-6.ensures.after (λ _ e. e)))

@@ -1,10 +1,6 @@
 -- One search begins and goes over all pairs; the next may follow.
-use Rattle.search.proofs.Laws.{starting}
 use Rattle.node_contractor.proofs.InArcs.{sets_out, in_arc_passes}
 use Rattle.node_contractor.proofs.handle_in_arc.Goals as goal
-
-pub init-search-requires : goal.init-search-requires
-init-search-requires c = let p = c.requires in (p.0, starting p.3.startable)
 
 pub handle_out_arcs-requires : goal.handle_out_arcs-requires
 handle_out_arcs-requires c = let p = c.requires in (p.0, p.1, p.2, _, sets_out c.init-search.result p.3 c.init-search.ensures c.init-search.auto.heap)

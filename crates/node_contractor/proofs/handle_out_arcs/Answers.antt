@@ -1,9 +1,9 @@
 -- The invariant: of every graph and search that stood, what is left of the out list and what was done come to the whole.
-use mathlib.Core.Path.{refl, ◌∙◌}
 use Prim.Native.Nat.{◌+◌, ◌*◌, ◌≤◌, ◌<◌}
 use native.Mathlib.Omega.{arith}
 use lib.ListN.{length, get_or}
 use Rattle.rules.specs.Numbers.{max_weight}
+use Rattle.std.proofs.lemmas.Result.{err_from_is_err_and}
 use Rattle.search.specs.Searching.{lent}
 use Rattle.search.proofs.Walks.{left_fit, left_room}
 use Rattle.node_contractor.proofs.Pairs.{steps_came, steps_refused}
@@ -16,56 +16,23 @@ left : (c : At-loop-place) →
     let a = c.args in
     let p = c.requires in
     OutsLeft p.4.midst.standing.stands a.work c.loop-place.work (lent c.loop-place.arcs c.loop-place.weights c.loop-place.nodes c.loop-place.labels c.loop-place.heap) a.v a.limit c.loop-place.place p.2 p.3
-left c = let p = c.requires in c.loop-place.invariant.5 p.0 p.1 p.2 p.3 p.4
+left c = let p = c.requires in c.loop-place.invariant p.0 p.1 p.2 p.3 p.4
 
 -- the place that is read
 room : (c : In-loop-place) → (6 * c.loop-place.place + 6 ≤ length c.loop-place.arcs) × (c.loop-place.place < length c.loop-place.weights)
-room c = left_room (outs_left c.requires.4 (let p = c.requires in c.loop-place.invariant.5 p.0 p.1 p.2 p.3 p.4)) c.loop-place-test.true
+room c = left_room (outs_left c.requires.4 (let p = c.requires in c.loop-place.invariant p.0 p.1 p.2 p.3 p.4)) c.loop-place-test.true
 
 light : (c : In-loop-place) → get_or c.loop-place.weights c.loop-place.place 0 ≤ max_weight
-light c = (left_fit (outs_left c.requires.4 (let p = c.requires in c.loop-place.invariant.5 p.0 p.1 p.2 p.3 p.4)) c.loop-place-test.true).light
-
-pub overflow_mul-place : goal.overflow_mul-place
-overflow_mul-place c = omega (arith, c.requires.4.midst.standing.stands.placed.nodes_room, c.requires.4.at.node)
-
-pub offset_bounds-nodes-v : goal.offset_bounds-nodes-v
-offset_bounds-nodes-v c = omega (arith, c.requires.4.midst.standing.stands.placed.nodes_room, c.requires.4.at.node)
-
-pub bounds-nodes-v : goal.bounds-nodes-v
-bounds-nodes-v c = omega (arith, c.requires.4.midst.standing.stands.placed.nodes_room, c.requires.4.at.node)
+light c = (left_fit (outs_left c.requires.4 (let p = c.requires in c.loop-place.invariant p.0 p.1 p.2 p.3 p.4)) c.loop-place-test.true).light
 
 pub loop-place-init : goal.loop-place-init
-loop-place-init c = (refl, refl, refl, refl, refl, λ n g a s p. outs_all p)
-
-pub overflow_cast-i : goal.overflow_cast-i
-overflow_cast-i c = omega (arith, room (goal.at.overflow_cast-i c).In-loop-place)
-
-pub overflow_mul-place-in-loop-place : goal.overflow_mul-place-in-loop-place
-overflow_mul-place-in-loop-place c = omega (arith, room (goal.at.overflow_mul-place-in-loop-place c).In-loop-place)
-
-pub overflow_add-place : goal.overflow_add-place
-overflow_add-place c = omega (arith, room (goal.at.overflow_add-place c).In-loop-place)
-
-pub offset_bounds-arcs-i : goal.offset_bounds-arcs-i
-offset_bounds-arcs-i c = omega (arith, room (goal.at.offset_bounds-arcs-i c).In-loop-place)
+loop-place-init c = λ n g a s p. outs_all p
 
 pub bounds-arcs-i : goal.bounds-arcs-i
 bounds-arcs-i c = omega (arith, room (goal.at.bounds-arcs-i c).In-loop-place)
 
-pub overflow_mul-head : goal.overflow_mul-head
-overflow_mul-head c = omega (arith, room (goal.at.overflow_mul-head c).In-loop-place)
-
-pub overflow_add-head : goal.overflow_add-head
-overflow_add-head c = omega (arith, room (goal.at.overflow_add-head c).In-loop-place)
-
-pub offset_bounds-arcs-i-in-loop-place : goal.offset_bounds-arcs-i-in-loop-place
-offset_bounds-arcs-i-in-loop-place c = omega (arith, room (goal.at.offset_bounds-arcs-i-in-loop-place c).In-loop-place)
-
 pub bounds-arcs-i-in-loop-place : goal.bounds-arcs-i-in-loop-place
 bounds-arcs-i-in-loop-place c = omega (arith, room (goal.at.bounds-arcs-i-in-loop-place c).In-loop-place)
-
-pub offset_bounds-weights-i : goal.offset_bounds-weights-i
-offset_bounds-weights-i c = omega (arith, room (goal.at.offset_bounds-weights-i c).In-loop-place)
 
 pub bounds-weights-i : goal.bounds-weights-i
 bounds-weights-i c = omega (arith, room (goal.at.bounds-weights-i c).In-loop-place)
@@ -73,17 +40,20 @@ bounds-weights-i c = omega (arith, room (goal.at.bounds-weights-i c).In-loop-pla
 pub overflow_add-sum : goal.overflow_add-sum
 overflow_add-sum c = omega (arith, light (goal.at.overflow_add-sum c).In-loop-place, c.requires.4.at.light)
 
-pub handle_pair-step-requires : goal.handle_pair-step-requires
-handle_pair-step-requires c = let p = c.requires.4 in let y = left (goal.at.handle_pair-step-requires c).At-loop-place in (_, y.graph, y.search, outs_pairing p y c.loop-place-test.true, outs_sum p y c.loop-place-test.true)
+pub handle_pair-requires : goal.handle_pair-requires
+handle_pair-requires c = let p = c.requires.4 in let y = left (goal.at.handle_pair-requires c).At-loop-place in (_, y.graph, y.search, outs_pairing p y c.loop-place-test.true, outs_sum p y c.loop-place-test.true)
 
 pub loop-place-smaller : goal.loop-place-smaller
-loop-place-smaller c = outs_nearer c.requires.4 (left (goal.at.loop-place-smaller c).At-loop-place) c.loop-place-test.true c.handle_pair-step.ensures _ c.in-Went.is
+loop-place-smaller c = outs_nearer c.requires.4 (left (goal.at.loop-place-smaller c).At-loop-place) c.loop-place-test.true c.handle_pair.ensures _ c.in_ok-work.was
 
 pub loop-place-preserved : goal.loop-place-preserved
-loop-place-preserved c = (c.handle_pair-step.auto.arcs ∙ c.loop-place.invariant.0, c.handle_pair-step.auto.weights ∙ c.loop-place.invariant.1, c.handle_pair-step.auto.nodes ∙ c.loop-place.invariant.2, c.handle_pair-step.auto.labels ∙ c.loop-place.invariant.3, c.handle_pair-step.auto.heap ∙ c.loop-place.invariant.4, λ n g a s p. outs_on p (c.loop-place.invariant.5 n g a s p) c.loop-place-test.true c.handle_pair-step.ensures _ c.in-Went.is)
+loop-place-preserved c = λ n g a s p. outs_on p (c.loop-place.invariant n g a s p) c.loop-place-test.true c.handle_pair.ensures _ c.in_ok-work.was
 
-pub returns-in-Refused : goal.returns-in-Refused
-returns-in-Refused c = λ n g a s p. steps_refused (outs_stop p (c.loop-place.invariant.5 n g a s p) c.loop-place-test.true c.handle_pair-step.ensures _ c.in-Refused.is)
+pub returns-in_err-work : goal.returns-in_err-work
+returns-in_err-work c =
+    λ n g a s p.
+    let told = err_from_is_err_and c.from_residual.result c.from_residual.ensures.1 in
+    rw (told.1, told.2) (steps_refused (outs_stop p (c.loop-place.invariant n g a s p) c.loop-place-test.true c.handle_pair.ensures _ c.in_err-work.was))
 
 pub returns : goal.returns
-returns c = λ n g a s p. steps_came (outs_done p (c.loop-place.invariant.5 n g a s p) c.loop-place-test.false)
+returns c = λ n g a s p. steps_came (outs_done p (c.loop-place.invariant n g a s p) c.loop-place-test.false)

@@ -1,6 +1,5 @@
 -- The invariant: of every graph and search that stood, what is left of the out list and what was done come to the whole.
 use mathlib.Core.List.{List}
-use mathlib.Core.Path.{◌≡◌}
 use Prim.Native.Nat.{ℕ}
 use lib.ListN.{length}
 use Rattle.rules.specs.Graph.{Arc}
@@ -13,9 +12,8 @@ use Rattle.node_contractor.proofs.handle_out_arcs.Given as goal
 
 abbrev pub invariant-loop-place : goal.invariant-loop-place
 invariant-loop-place l =
-    (length l.arcs ≡ length l.initial.arcs) × (length l.weights ≡ length l.initial.weights) × (length l.nodes ≡ length l.initial.nodes) × (length l.labels ≡ length l.initial.labels) × (length l.heap ≡ length l.initial.heap) ×
-    ((n : ℕ) (g : List Arc) (a : Arc) (s : Search) (p : Leaving (lent l.initial.arcs l.initial.weights l.initial.nodes l.initial.labels l.initial.heap) l.pool l.initial.work l.v l.tail l.weight n g a s) →
-    OutsLeft p.midst.standing.stands l.initial.work l.work (lent l.arcs l.weights l.nodes l.labels l.heap) l.v l.limit l.place a s)
+    (n : ℕ) (g : List Arc) (a : Arc) (s : Search) (p : Leaving (lent l.initial.arcs l.initial.weights l.initial.nodes l.initial.labels l.initial.heap) l.pool l.initial.work l.v l.tail l.weight n g a s) →
+    OutsLeft p.midst.standing.stands l.initial.work l.work (lent l.arcs l.weights l.nodes l.labels l.heap) l.v l.limit l.place a s
 
 abbrev pub decreases-loop-place : goal.decreases-loop-place
 decreases-loop-place l =

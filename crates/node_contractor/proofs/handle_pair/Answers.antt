@@ -6,9 +6,6 @@ use Rattle.node_contractor.proofs.handle_pair.Goals as goal
 pub returns-then-same : goal.returns-then-same
 returns-then-same c = λ n g s p small. dropped p (same_ends _ _ _ _ _ _ _ c.if-same.true)
 
-pub find_max_weight-found-requires : goal.find_max_weight-found-requires
-find_max_weight-found-requires c = let p = c.requires in (_, _, asks p.3 p.4)
-
 pub returns-then-witness : goal.returns-then-witness
 returns-then-witness c = λ n g s p small. witnessed p c.find_max_weight-found.result (c.find_max_weight-found.ensures _ s (asks p small)) c.if-same.false c.if-witness.true
 

@@ -1,6 +1,5 @@
 -- The invariant: of every graph that stood, what is left of the in list and what was done come to the whole, and the next search may begin.
 use mathlib.Core.List.{List}
-use mathlib.Core.Path.{◌≡◌}
 use Prim.Native.Nat.{ℕ}
 use lib.ListN.{length}
 use Rattle.rules.specs.Graph.{Arc}
@@ -12,9 +11,8 @@ use Rattle.node_contractor.proofs.handle_shortcuts.Given as goal
 
 abbrev pub invariant-loop-place : goal.invariant-loop-place
 invariant-loop-place l =
-    (length l.arcs ≡ length l.initial.arcs) × (length l.weights ≡ length l.initial.weights) × (length l.nodes ≡ length l.initial.nodes) × (length l.labels ≡ length l.initial.labels) × (length l.heap ≡ length l.initial.heap) ×
-    ((n : ℕ) (g : List Arc) (p : Contractible (lent l.initial.arcs l.initial.weights l.initial.nodes l.initial.labels l.initial.heap) l.pool l.initial.work l.v n g) →
-    InsLeft p.entering.resting.standing.stands l.initial.work l.work (lent l.arcs l.weights l.nodes l.labels l.heap) l.v l.limit l.place)
+    (n : ℕ) (g : List Arc) (p : Contractible (lent l.initial.arcs l.initial.weights l.initial.nodes l.initial.labels l.initial.heap) l.pool l.initial.work l.v n g) →
+    InsLeft p.entering.resting.standing.stands l.initial.work l.work (lent l.arcs l.weights l.nodes l.labels l.heap) l.v l.limit l.place
 
 abbrev pub decreases-loop-place : goal.decreases-loop-place
 decreases-loop-place l =

@@ -2,4 +2,4 @@
 use Rattle.ratmanoep.proofs.ratmanoep_build_with_order.Goals as goal
 
 pub returns : goal.returns
-returns c = c.build_with_order.ensures
+returns c = rw c.number.ensures c.build_with_order.ensures

@@ -40,9 +40,6 @@ returns-then-place c n pool state g r = reduces_none r.stands _ (sym (found_plac
 pub bounds-weights-at : goal.bounds-weights-at
 bounds-weights-at c = (room (goal.at.bounds-weights-at c).Else-place).1
 
-pub bounds-weights-at-then-weight-weights : goal.bounds-weights-at-then-weight-weights
-bounds-weights-at-then-weight-weights c = (room (goal.at.bounds-weights-at-then-weight-weights c).Else-place).1
-
 pub bounds-arcs-at : goal.bounds-arcs-at
 bounds-arcs-at c = omega (arith, (room (goal.at.bounds-arcs-at c).Else-place).0)
 

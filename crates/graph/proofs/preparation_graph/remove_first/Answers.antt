@@ -35,32 +35,8 @@ far_room s =
 near_room : (s : Start) → 4 * s.args.node + 4 ≤ length s.args.nodes.now
 near_room s = omega (arith, s.requires.2.inside, s.requires.2.stands.placed.nodes_room)
 
-pub overflow_cast-far : goal.overflow_cast-far
-overflow_cast-far c = omega (arith, room (goal.at.overflow_cast-far c).Start)
-
-pub overflow_mul-far : goal.overflow_mul-far
-overflow_mul-far c = omega (arith, room (goal.at.overflow_mul-far c).Start)
-
-pub overflow_add-far : goal.overflow_add-far
-overflow_add-far c = omega (arith, room (goal.at.overflow_add-far c).Start)
-
-pub offset_bounds-arcs-place : goal.offset_bounds-arcs-place
-offset_bounds-arcs-place c = omega (arith, room (goal.at.offset_bounds-arcs-place c).Start)
-
 pub bounds-arcs-place : goal.bounds-arcs-place
 bounds-arcs-place c = omega (arith, room (goal.at.bounds-arcs-place c).Start)
-
-pub overflow_cast-far-2 : goal.overflow_cast-far-2
-overflow_cast-far-2 c = omega (arith, far_room (goal.at.overflow_cast-far-2 c).Start)
-
-pub overflow_mul-far-2 : goal.overflow_mul-far-2
-overflow_mul-far-2 c = omega (arith, far_room (goal.at.overflow_mul-far-2 c).Start)
-
-pub overflow_add-far-2 : goal.overflow_add-far-2
-overflow_add-far-2 c = omega (arith, far_room (goal.at.overflow_add-far-2 c).Start)
-
-pub offset_bounds-nodes-far : goal.offset_bounds-nodes-far
-offset_bounds-nodes-far c = omega (arith, far_room (goal.at.offset_bounds-nodes-far c).Start)
 
 pub bounds-nodes-far : goal.bounds-nodes-far
 bounds-nodes-far c = omega (arith, far_room (goal.at.bounds-nodes-far c).Start)
@@ -99,18 +75,6 @@ unlink-requires-2 c = (
   record { side = c.requires.0; node = omega (arith, near_room (goal.at.unlink-requires-2 c).Start, c.unlink.auto.nodes); place = λ h. absurd (h refl) },
   omega (arith, room (goal.at.unlink-requires-2 c).Start, c.unlink.auto.arcs),
 )
-
-pub overflow_cast-arcs : goal.overflow_cast-arcs
-overflow_cast-arcs c = omega (arith, room (goal.at.overflow_cast-arcs c).Start)
-
-pub overflow_mul-arcs : goal.overflow_mul-arcs
-overflow_mul-arcs c = omega (arith, room (goal.at.overflow_mul-arcs c).Start)
-
-pub overflow_add-arcs : goal.overflow_add-arcs
-overflow_add-arcs c = omega (arith, room (goal.at.overflow_add-arcs c).Start)
-
-pub offset_bounds-arcs-place-2 : goal.offset_bounds-arcs-place-2
-offset_bounds-arcs-place-2 c = omega (arith, room (goal.at.offset_bounds-arcs-place-2 c).Start)
 
 pub bounds-arcs-place-2 : goal.bounds-arcs-place-2
 bounds-arcs-place-2 c = omega (arith, room (goal.at.bounds-arcs-place-2 c).Start, c.unlink-2.auto.arcs, c.unlink.auto.arcs)

@@ -1,41 +1,22 @@
 -- `remove_side` meets its contract. The loop's invariant: of any graph that stood at first, one stands now that has the same arcs
 -- beside the list. The measure is what is left of the list.
-use mathlib.Core.Path.{refl, ◌∙◌}
 use Prim.Native.Nat.{◌+◌, ◌*◌, ◌≤◌}
 use native.Mathlib.Omega.{arith}
 use lib.ListN.{length}
 use Rattle.lists.specs.Memory.{memory}
 use Rattle.graph.specs.Promises.{HoldsSome}
-use Rattle.graph.proofs.Removing.{fewer_not, fewer_on, fewer_all, fewer_holds, removed_nearer}
+use Rattle.graph.proofs.Removing.{fewer_on, fewer_all, fewer_holds, removed_nearer}
 use Rattle.graph.proofs.preparation_graph.remove_side.Goals as goal
 use Rattle.graph.proofs.preparation_graph.remove_side.Goals.{At-loop-nodes}
-
-pub loop-nodes-init : goal.loop-nodes-init
-loop-nodes-init c = let a = c.args in (refl, refl, fewer_not a.side a.node)
 
 -- the graph that the caller knows of, as it is now
 now_some : (c : At-loop-nodes) →
     let a = c.args in
     HoldsSome (memory c.loop-nodes.arcs c.loop-nodes.nodes) c.loop-nodes.freed a.node
-now_some c = fewer_holds c.args.side c.args.node c.loop-nodes.invariant.2 c.requires.1
+now_some c = fewer_holds c.args.side c.args.node c.loop-nodes.invariant c.requires.1
 
 room : (c : At-loop-nodes) → 4 * c.args.node + 4 ≤ length c.loop-nodes.nodes
-room c = let k = (let s = c in fewer_holds s.args.side s.args.node c.loop-nodes.invariant.2 s.requires.1) in omega (arith, k.inside, k.stands.placed.nodes_room)
-
-pub overflow_mul-node : goal.overflow_mul-node
-overflow_mul-node c = omega (arith, room (goal.at.overflow_mul-node c).At-loop-nodes)
-
-pub overflow_mul-side : goal.overflow_mul-side
-overflow_mul-side c = omega (arith, c.requires.0)
-
-pub overflow_add-node : goal.overflow_add-node
-overflow_add-node c = omega (arith, room (goal.at.overflow_add-node c).At-loop-nodes, c.requires.0)
-
-pub offset_bounds-nodes-node : goal.offset_bounds-nodes-node
-offset_bounds-nodes-node c = omega (arith, room (goal.at.offset_bounds-nodes-node c).At-loop-nodes, c.requires.0)
-
-pub bounds-nodes-node : goal.bounds-nodes-node
-bounds-nodes-node c = omega (arith, room (goal.at.bounds-nodes-node c).At-loop-nodes, c.requires.0)
+room c = let k = (let s = c in fewer_holds s.args.side s.args.node c.loop-nodes.invariant s.requires.1) in omega (arith, k.inside, k.stands.placed.nodes_room)
 
 pub remove_first-freed-requires : goal.remove_first-freed-requires
 remove_first-freed-requires c = (c.requires.0, c.loop-nodes-test.true, now_some (goal.at.remove_first-freed-requires c).At-loop-nodes)
@@ -48,12 +29,7 @@ loop-nodes-smaller c =
     (drops k.nodes k.pool k.fresh k.weights k.graph k.stands k.inside) c.loop-nodes-test.true
 
 pub loop-nodes-preserved : goal.loop-nodes-preserved
-loop-nodes-preserved c =
-    let a = c.args in (
-      c.remove_first-freed.auto.arcs ∙ c.loop-nodes.invariant.0,
-      c.remove_first-freed.auto.nodes ∙ c.loop-nodes.invariant.1,
-      fewer_on a.side a.node c.loop-nodes.invariant.2 c.remove_first-freed.ensures,
-    )
+loop-nodes-preserved c = fewer_on c.args.side c.args.node c.loop-nodes.invariant c.remove_first-freed.ensures
 
 pub returns : goal.returns
-returns c = fewer_all c.args.side c.args.node c.loop-nodes.invariant.2 c.requires.0 c.loop-nodes-test.false
+returns c = fewer_all c.args.side c.args.node c.loop-nodes.invariant c.requires.0 c.loop-nodes-test.false

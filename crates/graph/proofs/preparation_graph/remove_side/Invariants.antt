@@ -1,6 +1,5 @@
 -- `remove_side` meets its contract. The loop's invariant: of any graph that stood at first, one stands now that has the same arcs
 -- beside the list. The measure is what is left of the list.
-use mathlib.Core.Path.{◌≡◌}
 use Prim.Native.Nat.{◌+◌}
 use lib.ListN.{length}
 use Rattle.lists.specs.Memory.{memory, first}
@@ -9,8 +8,7 @@ use Rattle.graph.proofs.Removing.{Fewer}
 use Rattle.graph.proofs.preparation_graph.remove_side.Given as goal
 
 abbrev pub invariant-loop-nodes : goal.invariant-loop-nodes
-invariant-loop-nodes l =
-    (length l.arcs ≡ length l.initial.arcs) × (length l.nodes ≡ length l.initial.nodes) × Fewer (memory l.initial.arcs l.initial.nodes) (memory l.arcs l.nodes) l.free l.freed l.side l.node
+invariant-loop-nodes l = Fewer (memory l.initial.arcs l.initial.nodes) (memory l.arcs l.nodes) l.free l.freed l.side l.node
 
 abbrev pub decreases-loop-nodes : goal.decreases-loop-nodes
 decreases-loop-nodes l =

@@ -1,7 +1,5 @@
 -- `find_max_weight` meets its contract: the answer at once, by label or by stamp, or that of a run.
 use mathlib.Core.Path.{sym, ◌∙◌}
-use native.Mathlib.Omega.{arith}
-use Rattle.search.proofs.Offers.{label_room}
 use Rattle.search.proofs.Answers.{answered_labelled, answered_settled, answered_run}
 use Rattle.search.proofs.witness_search.find_max_weight.Goals as goal
 
@@ -13,11 +11,6 @@ returns-then-is_settled c =
     λ w s x.
     answered_settled c.args.search x _ c.get_current_weight-weight.ensures
     (sym c.is_settled.ensures ∙ c.if-is_settled.true)
-
-pub get_current_weight-requires : goal.get_current_weight-requires
-get_current_weight-requires c =
-    let x = c.requires.2 in
-    omega (arith, label_room x.ready.searching _ x.inside, c.run-end.auto.labels)
 
 pub returns : goal.returns
 returns c =

@@ -1,9 +1,8 @@
 -- `relax` meets its contract. The loop's invariant: what is left of a chain, and what was done, comes to the whole. The measure is the
 -- number of links to the end of the chain.
-use mathlib.Core.Path.{refl, ◌∙◌}
 use native.Mathlib.Omega.{arith}
 use Rattle.search.specs.Promises.{Usable}
-use Rattle.search.proofs.Rows.{Rest, rest_all, first_usable, first_offering, walk_falls, rest_on, rest_done}
+use Rattle.search.proofs.Rows.{Rest, first_usable, first_offering, walk_falls, rest_on, rest_done}
 use Rattle.search.proofs.witness_search.relax.Goals as goal
 use Rattle.search.proofs.witness_search.relax.Goals.{At-loop-place, In-loop-place}
 
@@ -14,47 +13,20 @@ rest : (c : At-loop-place) →
     Rest a.arcs.now a.weights.now c.loop-place.labels c.loop-place.heap a.base a.avoid c.loop-place.len c.loop-place.place a.weight r.0 r.1
 rest c =
     let r = c.requires in
-    c.loop-place.invariant.2 r.0 r.1 r.2
+    c.loop-place.invariant r.0 r.1 r.2
 
 usable : (c : In-loop-place) →
     let a = c.args in
     let r = c.requires in
     Usable r.0.n a.arcs.now a.weights.now c.loop-place.place
 usable c = first_usable (let r = c.requires in
-    c.loop-place.invariant.2 r.0 r.1 r.2).relaxing c.loop-place-test.true
-
-pub loop-place-init : goal.loop-place-init
-loop-place-init c = (refl, refl, λ r s x. rest_all x)
-
-pub overflow_cast-i : goal.overflow_cast-i
-overflow_cast-i c = omega (arith, (usable (goal.at.overflow_cast-i c).In-loop-place).valid)
-
-pub overflow_mul-place : goal.overflow_mul-place
-overflow_mul-place c = omega (arith, (usable (goal.at.overflow_mul-place c).In-loop-place).arc_room)
-
-pub overflow_add-place : goal.overflow_add-place
-overflow_add-place c = omega (arith, (usable (goal.at.overflow_add-place c).In-loop-place).arc_room)
-
-pub offset_bounds-arcs-i : goal.offset_bounds-arcs-i
-offset_bounds-arcs-i c = omega (arith, (usable (goal.at.offset_bounds-arcs-i c).In-loop-place).arc_room)
+    c.loop-place.invariant r.0 r.1 r.2).relaxing c.loop-place-test.true
 
 pub bounds-arcs-i : goal.bounds-arcs-i
 bounds-arcs-i c = omega (arith, (usable (goal.at.bounds-arcs-i c).In-loop-place).arc_room)
 
-pub overflow_mul-i : goal.overflow_mul-i
-overflow_mul-i c = omega (arith, (usable (goal.at.overflow_mul-i c).In-loop-place).arc_room)
-
-pub overflow_add-i : goal.overflow_add-i
-overflow_add-i c = omega (arith, (usable (goal.at.overflow_add-i c).In-loop-place).arc_room)
-
-pub offset_bounds-arcs-i-in-loop-place : goal.offset_bounds-arcs-i-in-loop-place
-offset_bounds-arcs-i-in-loop-place c = omega (arith, (usable (goal.at.offset_bounds-arcs-i-in-loop-place c).In-loop-place).arc_room)
-
 pub bounds-arcs-i-in-loop-place : goal.bounds-arcs-i-in-loop-place
 bounds-arcs-i-in-loop-place c = omega (arith, (usable (goal.at.bounds-arcs-i-in-loop-place c).In-loop-place).arc_room)
-
-pub offset_bounds-weights-i : goal.offset_bounds-weights-i
-offset_bounds-weights-i c = omega (arith, (usable (goal.at.offset_bounds-weights-i c).In-loop-place).weight_room)
 
 pub bounds-weights-i : goal.bounds-weights-i
 bounds-weights-i c = omega (arith, (usable (goal.at.bounds-weights-i c).In-loop-place).weight_room)
@@ -69,12 +41,9 @@ pub loop-place-smaller : goal.loop-place-smaller
 loop-place-smaller c = walk_falls (rest (goal.at.loop-place-smaller c).At-loop-place).relaxing c.loop-place-test.true
 
 pub loop-place-preserved : goal.loop-place-preserved
-loop-place-preserved c = (
-  c.relax_arc-len.auto.labels ∙ c.loop-place.invariant.0,
-  c.relax_arc-len.auto.heap ∙ c.loop-place.invariant.1,
-  λ r s x.
-      rest_on (c.loop-place.invariant.2 r s x) c.loop-place-test.true c.relax_arc-len.ensures c.relax_arc-len.auto.heap,
-)
+loop-place-preserved c =
+    λ r s x.
+    rest_on (c.loop-place.invariant r s x) c.loop-place-test.true c.relax_arc-len.ensures c.relax_arc-len.auto.heap
 
 pub returns : goal.returns
-returns c = λ r s x. rest_done (c.loop-place.invariant.2 r s x) c.loop-place-test.false
+returns c = λ r s x. rest_done (c.loop-place.invariant r s x) c.loop-place-test.false

@@ -1,6 +1,5 @@
 -- `relax` meets its contract. The loop's invariant: what is left of a chain, and what was done, comes to the whole. The measure is the
 -- number of links to the end of the chain.
-use mathlib.Core.Path.{◌≡◌}
 use lib.ListN.{length}
 use Rattle.lists.specs.Walks.{steps}
 use Rattle.search.specs.Promises.{Each, Relaxing}
@@ -9,8 +8,7 @@ use Rattle.search.proofs.witness_search.relax.Given as goal
 
 abbrev pub invariant-loop-place : goal.invariant-loop-place
 invariant-loop-place l =
-    (length l.labels ≡ length l.initial.labels) × (length l.heap ≡ length l.initial.heap)
-    × Each (Relaxing l.arcs l.weights l.initial.labels l.initial.heap l.base l.len-2 l.first l.weight) (Rest l.arcs l.weights l.labels l.heap l.base l.avoid l.len l.place l.weight)
+    Each (Relaxing l.arcs l.weights l.initial.labels l.initial.heap l.base l.len-2 l.first l.weight) (Rest l.arcs l.weights l.labels l.heap l.base l.avoid l.len l.place l.weight)
 
 abbrev pub decreases-loop-place : goal.decreases-loop-place
 decreases-loop-place l =

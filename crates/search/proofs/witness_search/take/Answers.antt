@@ -1,7 +1,6 @@
 -- `take` meets its contract: the first entry's node is settled already, or is settled now.
 use mathlib.Core.Path.{sym, ap, ◌∙◌}
 use mathlib.Core.Bool.{not}
-use native.Mathlib.Omega.{arith}
 use Rattle.rules.specs.Search.{with_heap}
 use Rattle.search.proofs.Offers.{label_room}
 use Rattle.search.proofs.Takes.{leaves_reached, taken_over, taken_settling, taken_settled}
@@ -19,11 +18,6 @@ pub settle-left-requires : goal.settle-left-requires
 settle-left-requires c =
     let r = c.requires in
     (r.0, with_heap _ r.1, taken_settling r.2 c.pop-top.ensures (sym c.is_settled.ensures ∙ c.if-is_settled.false))
-
-pub reached-requires : goal.reached-requires
-reached-requires c =
-    let x = c.requires.2 in
-    omega (arith, label_room x.asked.ready.searching _ x.asked.inside, c.settle-left.auto.labels)
 
 pub returns : goal.returns
 returns c =

@@ -42,11 +42,6 @@ returns-then-weight_limit-peek c =
     λ w s x.
     turned_heavy x _ _ (some (goal.at.returns-then-weight_limit-peek c).Else-len-eq0) c.if-settled_nodes_limit-settled.false (omega (arith, c.if-weight_limit-peek.true, weighed (goal.at.returns-then-weight_limit-peek c).After-peek))
 
-pub take-requires : goal.take-requires
-take-requires c =
-    let r = c.requires in
-    (r.0, r.1, taking (goal.at.take-requires c).Else-weight_limit-peek r.0 r.1 r.2)
-
 pub returns : goal.returns
 returns c =
     λ w s x.

@@ -1,15 +1,11 @@
 -- `update_node` meets its contract: where the arms of the branch meet, the stamp is `kept_stamp`.
 use mathlib.Core.Path.{◌≡◌, ap}
 use Prim.Native.Nat.{◌+◌, ◌*◌}
-use native.Mathlib.Omega.{arith}
-use lib.ListN.{set, length-set}
+use lib.ListN.{set}
 use borrow.Author.Tests.{lt-ltb, le-ltb}
 use Rattle.search.specs.Labels.{kept_stamp, put_label}
 use Rattle.search.proofs.witness_search.update_node.Goals as goal
 use Rattle.search.proofs.witness_search.update_node.Goals.{Joined-earlier, then-earlier, else-earlier}
-
-pub bounds-labels-v-3 : goal.bounds-labels-v-3
-bounds-labels-v-3 c = simp length-set (omega arith)
 
 joined : (c : Joined-earlier) →
     let a = c.args in

@@ -1,0 +1,2 @@
+-- What the bytes of the lists say.
+pub mod Front
