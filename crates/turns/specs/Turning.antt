@@ -11,6 +11,9 @@ use Rattle.query_laws.specs.Sound.{Sound}
 use Rattle.halves.specs.Labels.{Keeps, seen, half}
 use Rattle.halves.specs.Promises.{Relaxing, Reads}
 use Rattle.tables.specs.declared.Sided.{Sided}
+use Rattle.tables.specs.declared.Table.{Table as Lent}
+use Rattle.halves.specs.declared.Half.{Half as Search}
+use Rattle.halves.specs.Slices.{Kept}
 use Rattle.turns.specs.declared.Best.{Best as Held}
 
 abbrev pub best : ℕ → ℕ → Best
@@ -61,12 +64,6 @@ pub record Turning (n : ℕ) (ranks starts neighbours weights ts tm tw labels he
   pub facing_low : (v : ℕ) → v < n → (seen facing base v).weight < no_weight → (seen facing base v).weight < 2 ^ 63
   pub stamps : base + 1 < 2 ^ 64
 
--- the same of the code's tables
-abbrev pub TurningOn : Sided → List ℕ → List ℕ → List ℕ → ℕ → ℕ → ℕ → Type 0
-TurningOn t =
-    Turning t.num_nodes t.ranks.now t.own.starts.now t.own.neighbours.now t.own.weights.now t.other.starts.now
-    t.other.neighbours.now t.other.weights.now
-
 -- whatever search the labels faced are of, the turn is the definition's
 pub record Turns (n : ℕ) (ranks starts neighbours weights ts tm tw labels heap facing : List ℕ) (base len : ℕ) (b : Best) (labels' heap' : List ℕ) (r : ℕ) (b' : Best) : Type 0 where
   pub turned : (t : Turning n ranks starts neighbours weights ts tm tw labels heap facing base len b.sum) (y : Half) →
@@ -77,7 +74,20 @@ pub record Turns (n : ℕ) (ranks starts neighbours weights ts tm tw labels heap
   pub held : 2 * r ≤ length heap'
   pub stamps : Keeps base labels labels'
 
-abbrev pub TurnsOn : Sided → List ℕ → List ℕ → List ℕ → ℕ → ℕ → Best → List ℕ → List ℕ → ℕ → Best → Type 0
-TurnsOn t =
-    Turns t.num_nodes t.ranks.now t.own.starts.now t.own.neighbours.now t.own.weights.now t.other.starts.now
-    t.other.neighbours.now t.other.weights.now
+-- The same of the code's tables and half.
+abbrev pub SettlingIn : Lent → Search → ℕ → ℕ → ℕ → ℕ → Type 0
+SettlingIn own x = Settling own.neighbours.now own.weights.now x.labels.now x.heap.now x.base x.len
+
+pub record SettlesIn (own : Lent) (x y : Search) (v weight begin end : ℕ) : Type 0 where
+  pub settles : Settles own.neighbours.now own.weights.now x.labels.now x.heap.now y.labels.now y.heap.now x.base x.len y.len v weight begin end
+  pub kept : Kept x y
+
+abbrev pub TurningOn : Sided → Search → List ℕ → ℕ → Type 0
+TurningOn t x facing sum =
+    Turning t.num_nodes t.ranks.now t.own.starts.now t.own.neighbours.now t.own.weights.now t.other.starts.now
+    t.other.neighbours.now t.other.weights.now x.labels.now x.heap.now facing x.base x.len sum
+
+pub record TurnsOn (t : Sided) (x : Search) (facing : List ℕ) (b : Best) (y : Search) (b' : Best) : Type 0 where
+  pub turns : Turns t.num_nodes t.ranks.now t.own.starts.now t.own.neighbours.now t.own.weights.now t.other.starts.now
+      t.other.neighbours.now t.other.weights.now x.labels.now x.heap.now facing x.base x.len b y.labels.now y.heap.now y.len b'
+  pub kept : Kept x y

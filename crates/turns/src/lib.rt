@@ -6,9 +6,9 @@ ghost use Rattle.std.specs.Prelude.{◌≡◌, ◌+◌, ◌*◌, ◌^◌, ◌<�
 ghost use Rattle.rules.specs.Numbers.{no_weight};
 ghost use Rattle.rules.specs.Query.{improve};
 ghost use Rattle.halves.specs.Labels.{seen};
-ghost use Rattle.turns.specs.Turning.{of, best, Settling, Settles, TurningOn, TurnsOn};
+ghost use Rattle.turns.specs.Turning.{of, best, SettlingIn, SettlesIn, TurningOn, TurnsOn};
 
-use halves::{get_weight, is_settled};
+use halves::Half;
 use rules::WEIGHT_MAX;
 use tables::{Sided, Table};
 
@@ -31,13 +31,6 @@ impl Best {
     }
 }
 
-// Where a turn leaves its side: how many items the heap has, and the best sum.
-#[derive(Clone, Copy)]
-pub struct Outcome {
-    pub len: usize,
-    pub best: Best,
-}
-
 // Whether a label and an entry make strictly less than what was taken out. No sum is formed with the mark.
 fn less(label: u64, entry: u64, weight: u64) -> bool
     ensures { result ≡ ltb (label + entry) weight }
@@ -49,11 +42,12 @@ fn less(label: u64, entry: u64, weight: u64) -> bool
 }
 
 // A settled node with a label on the other side may set the best sum.
-fn meet(facing: &[u64], base: u64, v: usize, weight: u64, best: Best) -> Best
-    requires { (4 * (v + 1) ≤ length facing.now) × (v < 2 ^ 32) × ((seen facing.now base v).weight < no_weight → weight + (seen facing.now base v).weight < 2 ^ 64) }
-    ensures { of result ≡ improve (weight + (seen facing.now base v).weight) v (of best) }
+fn meet(facing: &Half<'_>, v: usize, weight: u64, best: Best) -> Best
+    requires { (4 * (v + 1) ≤ length facing.now.labels.now) × (v < 2 ^ 32) ×
+        ((seen facing.now.labels.now facing.now.base v).weight < no_weight → weight + (seen facing.now.labels.now facing.now.base v).weight < 2 ^ 64) }
+    ensures { of result ≡ improve (weight + (seen facing.now.labels.now facing.now.base v).weight) v (of best) }
 {
-    let across = get_weight(facing, base, v);
+    let across = facing.get_weight(v);
     let apart = across == WEIGHT_MAX;
     if apart {
         return best;
@@ -62,57 +56,26 @@ fn meet(facing: &[u64], base: u64, v: usize, weight: u64, best: Best) -> Best
 }
 
 // Offers along the node's entries, and marks it.
-fn settle(
-    own: &Table<'_>,
-    labels: &mut [u64],
-    heap: &mut [u64],
-    base: u64,
-    len: usize,
-    v: usize,
-    weight: u64,
-    begin: usize,
-    end: usize,
-) -> usize
-    requires { Settling own.now.neighbours.now own.now.weights.now labels.old heap.old base len v weight begin end }
-    ensures { Settles own.now.neighbours.now own.now.weights.now labels.old heap.old labels.new heap.new base len result v weight begin end }
+fn settle(own: &Table<'_>, half: &mut Half<'_>, v: usize, weight: u64, begin: usize, end: usize)
+    requires { SettlingIn own.now half.old v weight begin end }
+    ensures { SettlesIn own.now half.old half.new v weight begin end }
 {
-    let r = halves::relax(
-        own.neighbours,
-        own.weights,
-        labels,
-        heap,
-        base,
-        len,
-        v as u64,
-        weight,
-        begin,
-        end,
-    );
-    halves::set_settled(labels, base, v);
-    r
+    half.relax(own.neighbours, own.weights, v as u64, weight, begin, end);
+    half.set_settled(v);
 }
 
 // It ends at the first item that it settles, or at one heavier than the best, which is taken out and lost, or with its heap empty.
-pub fn turn(
-    t: &Sided<'_>,
-    labels: &mut [u64],
-    heap: &mut [u64],
-    facing: &[u64],
-    base: u64,
-    len: usize,
-    best: Best,
-) -> Outcome
-    requires { TurningOn t.now labels.old heap.old facing.now base len best.sum }
-    ensures { TurnsOn t.now labels.old heap.old facing.now base len (of best) labels.new heap.new result.len (of result.best) }
+pub fn turn(t: &Sided<'_>, half: &mut Half<'_>, facing: &Half<'_>, best: Best) -> Best
+    requires { (facing.now.base ≡ half.old.base) × TurningOn t.now half.old facing.now.labels.now best.sum }
+    ensures { TurnsOn t.now half.old facing.now.labels.now (of best) half.new (of result) }
 {
-    let mut len = len;
     let mut best = best;
-    'outer: while 0 < len {
-        let top = heap::pop(heap, len);
-        len -= 1;
+    'outer: while 0 < half.len {
+        let top = heap::pop(half.heap, half.len);
+        half.len -= 1;
         let v = top.node as usize;
         let weight = top.weight;
-        if is_settled(labels, base, v) {
+        if half.is_settled(v) {
             continue 'outer;
         }
         if best.sum < weight {
@@ -121,26 +84,23 @@ pub fn turn(
         let r = t.ranks[v] as usize;
         for e in t.other.starts[r] as usize..t.other.starts[r + 1] as usize {
             if less(
-                get_weight(labels, base, t.other.neighbours[e] as usize),
+                half.get_weight(t.other.neighbours[e] as usize),
                 t.other.weights[e],
                 weight,
             ) {
                 continue 'outer;
             }
         }
-        len = settle(
+        settle(
             &t.own,
-            labels,
-            heap,
-            base,
-            len,
+            half,
             v,
             weight,
             t.own.starts[r] as usize,
             t.own.starts[r + 1] as usize,
         );
-        best = meet(facing, base, v, weight, best);
+        best = meet(facing, v, weight, best);
         break 'outer;
     }
-    Outcome { len, best }
+    best
 }

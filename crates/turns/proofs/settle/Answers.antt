@@ -1,15 +1,18 @@
 -- Relaxing, then the mark.
+use mathlib.Core.Path.{◌∙◌}
 use native.Mathlib.Omega.{arith}
+use lib.ListN.{length, length-set}
+use Rattle.halves.specs.Labels.{put_settled}
 use Rattle.turns.proofs.Settling.{settles}
 use Rattle.turns.proofs.settle.Goals as goal
 
-pub relax-r-requires : goal.relax-r-requires
-relax-r-requires c = c.requires.relaxing
-
-pub set_settled-requires : goal.set_settled-requires
-set_settled-requires c = (omega (arith, c.requires.label_room, c.relax-r.auto.labels), c.requires.stamps)
-
 pub returns : goal.returns
+unfolding put_settled
 returns c =
-    rw c.set_settled.ensures
-    (settles _ _ _ _ _ _ _ _ _ _ _ _ _ c.requires c.relax-r.auto.labels c.relax-r.ensures)
+    let r = c.relax.ensures in
+    let mark = c.set_settled.ensures.mark in
+    let rest = c.set_settled.ensures.rest in
+    record {
+      settles = rw (rw r.kept.base at mark, rest.heap, rest.len) (settles _ _ _ _ _ _ _ _ _ _ _ _ _ c.requires r.kept.labels r.relaxes);
+      kept = record { labels = rw mark (simp length-set r.kept.labels); heap = rw rest.heap r.kept.heap; base = rest.base ∙ r.kept.base };
+    }
