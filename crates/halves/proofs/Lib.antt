@@ -2,3 +2,4 @@
 pub mod Labels
 pub mod Relaxing
 pub mod Entering
+pub mod Slices

@@ -9,6 +9,8 @@ use Rattle.query_laws.specs.Accepted.{Accepted}
 use Rattle.tables.specs.declared.FastGraph.{FastGraph}
 use Rattle.tables.specs.Lent.{hierarchy_of}
 use Rattle.halves.specs.declared.Ends.{Ends}
+use Rattle.halves.specs.declared.Half.{Half as Search}
+use Rattle.halves.specs.Slices.{Kept}
 use Rattle.halves.specs.Labels.{Before}
 use Rattle.rounds.specs.Rounds.{halves}
 use Rattle.ends.specs.Given.{given}
@@ -48,8 +50,18 @@ pub record Searched (n : ℕ) (h : Hierarchy) (sources so targets to fl bl fh bh
 abbrev pub call_of : FastGraph → Ends → Ends → List ℕ → List ℕ → QueryCall
 call_of g s t = call g.num_nodes (hierarchy_of g) s.nodes.now s.offsets.now t.nodes.now t.offsets.now
 
-abbrev pub SearchingOf : FastGraph → Ends → Ends → List ℕ → List ℕ → List ℕ → List ℕ → ℕ → Type 0
-SearchingOf g s t = Searching g.num_nodes (hierarchy_of g) s.nodes.now s.offsets.now t.nodes.now t.offsets.now
+-- the same of the code's halves: of one base, and with empty heaps
+pub record Fresh (x y : Search) : Type 0 where
+  pub base : y.base ≡ x.base
+  pub fwd_empty : x.len ≡ 0
+  pub bwd_empty : y.len ≡ 0
 
-abbrev pub SearchedOf : FastGraph → Ends → Ends → List ℕ → List ℕ → List ℕ → List ℕ → ℕ → List ℕ → List ℕ → List ℕ → List ℕ → Best → Type 0
-SearchedOf g s t = Searched g.num_nodes (hierarchy_of g) s.nodes.now s.offsets.now t.nodes.now t.offsets.now
+abbrev pub SearchingOf : FastGraph → Ends → Ends → Search → Search → Type 0
+SearchingOf g s t x y =
+    Searching g.num_nodes (hierarchy_of g) s.nodes.now s.offsets.now t.nodes.now t.offsets.now x.labels.now y.labels.now x.heap.now y.heap.now x.base
+
+pub record SearchedOf (g : FastGraph) (s t : Ends) (x y x' y' : Search) (best : Best) : Type 0 where
+  pub searched : Searched g.num_nodes (hierarchy_of g) s.nodes.now s.offsets.now t.nodes.now t.offsets.now x.labels.now y.labels.now x.heap.now y.heap.now x.base
+      x'.labels.now y'.labels.now x'.heap.now y'.heap.now best
+  pub fwd_kept : Kept x x'
+  pub bwd_kept : Kept y y'

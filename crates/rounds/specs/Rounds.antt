@@ -8,6 +8,8 @@ use Rattle.heap.specs.Shape.{Ordered}
 use Rattle.query_laws.specs.Sound.{Both, both_loads}
 use Rattle.tables.specs.declared.FastGraph.{FastGraph}
 use Rattle.tables.specs.declared.Sided.{Sided}
+use Rattle.halves.specs.declared.Half.{Half as Search}
+use Rattle.halves.specs.Slices.{Kept}
 use Rattle.halves.specs.Labels.{Keeps, half}
 use Rattle.turns.specs.Turning.{View}
 
@@ -55,23 +57,27 @@ pub record Ran (n : ℕ) (ranks fs fm fw bs bm bw fl bl fh bh : List ℕ) (base 
   pub fwd_stamps : Keeps base fl fl'
   pub bwd_stamps : Keeps base bl bl'
 
--- the same of the code's tables, the forward one first
-abbrev pub RoundingOn : Sided → List ℕ → List ℕ → List ℕ → List ℕ → ℕ → ℕ → ℕ → Best → Type 0
-RoundingOn t =
+-- The same of the code's tables, the forward one first, and halves.
+abbrev pub RoundingOn : Sided → Search → Search → Best → Type 0
+RoundingOn t x y =
     Rounding t.num_nodes t.ranks.now t.own.starts.now t.own.neighbours.now t.own.weights.now t.other.starts.now
-    t.other.neighbours.now t.other.weights.now
+    t.other.neighbours.now t.other.weights.now x.labels.now y.labels.now x.heap.now y.heap.now x.base x.len y.len
 
-abbrev pub RoundedOn : Sided → List ℕ → List ℕ → List ℕ → List ℕ → ℕ → ℕ → ℕ → Best → List ℕ → List ℕ → List ℕ → List ℕ → ℕ → ℕ → Best → Type 0
-RoundedOn t =
-    Rounded t.num_nodes t.ranks.now t.own.starts.now t.own.neighbours.now t.own.weights.now t.other.starts.now
-    t.other.neighbours.now t.other.weights.now
+pub record RoundedOn (t : Sided) (x y : Search) (best : Best) (x' y' : Search) (best' : Best) : Type 0 where
+  pub rounded : Rounded t.num_nodes t.ranks.now t.own.starts.now t.own.neighbours.now t.own.weights.now t.other.starts.now
+      t.other.neighbours.now t.other.weights.now x.labels.now y.labels.now x.heap.now y.heap.now x.base x.len y.len best
+      x'.labels.now y'.labels.now x'.heap.now y'.heap.now x'.len y'.len best'
+  pub fwd_kept : Kept x x'
+  pub bwd_kept : Kept y y'
 
-abbrev pub RunningOn : FastGraph → List ℕ → List ℕ → List ℕ → List ℕ → ℕ → ℕ → ℕ → Best → ℕ → Type 0
-RunningOn g =
+abbrev pub RunningOn : FastGraph → Search → Search → Best → ℕ → Type 0
+RunningOn g x y =
     Running g.num_nodes g.ranks.now g.fwd.starts.now g.fwd.neighbours.now g.fwd.weights.now g.bwd.starts.now
-    g.bwd.neighbours.now g.bwd.weights.now
+    g.bwd.neighbours.now g.bwd.weights.now x.labels.now y.labels.now x.heap.now y.heap.now x.base x.len y.len
 
-abbrev pub RanOn : FastGraph → List ℕ → List ℕ → List ℕ → List ℕ → ℕ → ℕ → ℕ → Best → ℕ → List ℕ → List ℕ → List ℕ → List ℕ → Best → Type 0
-RanOn g =
-    Ran g.num_nodes g.ranks.now g.fwd.starts.now g.fwd.neighbours.now g.fwd.weights.now g.bwd.starts.now
-    g.bwd.neighbours.now g.bwd.weights.now
+pub record RanOn (g : FastGraph) (x y : Search) (best : Best) (fuel : ℕ) (x' y' : Search) (best' : Best) : Type 0 where
+  pub ran : Ran g.num_nodes g.ranks.now g.fwd.starts.now g.fwd.neighbours.now g.fwd.weights.now g.bwd.starts.now
+      g.bwd.neighbours.now g.bwd.weights.now x.labels.now y.labels.now x.heap.now y.heap.now x.base x.len y.len best fuel
+      x'.labels.now y'.labels.now x'.heap.now y'.heap.now best'
+  pub fwd_kept : Kept x x'
+  pub bwd_kept : Kept y y'

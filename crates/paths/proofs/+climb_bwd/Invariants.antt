@@ -3,4 +3,4 @@ use Rattle.paths.proofs.Chains.{steps}
 use Rattle.paths.proofs.+climb_bwd.Given as goal
 
 abbrev pub decreases-climb_bwd : goal.decreases-climb_bwd
-decreases-climb_bwd l = steps l.labels.now l.base l.v
+decreases-climb_bwd l = steps l.half.now.labels.now l.half.now.base l.v

@@ -3,4 +3,4 @@ use Rattle.paths.proofs.Chains.{steps}
 use Rattle.paths.proofs.+climb_fwd.Given as goal
 
 abbrev pub decreases-climb_fwd : goal.decreases-climb_fwd
-decreases-climb_fwd l = steps l.labels.now l.base l.v
+decreases-climb_fwd l = steps l.half.now.labels.now l.half.now.base l.v

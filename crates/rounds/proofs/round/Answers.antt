@@ -1,12 +1,24 @@
 -- Two turns.
+use mathlib.Core.Path.{sym, ◌∙◌}
 use Rattle.rounds.proofs.Going.{forward_turning, backward_turning, rounded}
 use Rattle.rounds.proofs.round.Goals as goal
 
-pub turn-x-requires : goal.turn-x-requires
-turn-x-requires c = forward_turning _ _ _ _ _ _ _ _ _ _ _ _ _ _ _ _ c.requires.1
+pub turn-met-requires : goal.turn-met-requires
+turn-met-requires c = (c.requires.1, forward_turning _ _ _ _ _ _ _ _ _ _ _ _ _ _ _ _ c.requires.2)
 
-pub turn-y-requires : goal.turn-y-requires
-turn-y-requires c = rw c.requires.0 (backward_turning _ _ _ _ _ _ _ _ _ _ _ _ _ _ _ _ c.requires.1 _ _ _ _ c.turn-x.auto.labels c.turn-x.ensures)
+pub turn-requires : goal.turn-requires
+turn-requires c =
+    let x = c.turn-met.ensures in (
+      x.kept.base ∙ sym c.requires.1,
+      rw (c.requires.0, c.requires.1) (backward_turning _ _ _ _ _ _ _ _ _ _ _ _ _ _ _ _ c.requires.2 _ _ _ _ x.kept.labels x.turns),
+    )
 
 pub returns : goal.returns
-returns c = rounded _ _ _ _ _ _ _ _ _ _ _ _ _ _ _ _ _ _ _ _ _ _ _ _ c.turn-x.auto.labels c.turn-x.ensures (rw c.requires.0 at c.turn-y.ensures)
+returns c =
+    let x = c.turn-met.ensures in
+    let y = c.turn.ensures in
+    record {
+      rounded = rounded _ _ _ _ _ _ _ _ _ _ _ _ _ _ _ _ _ _ _ _ _ _ _ _ x.kept.labels x.turns (rw (c.requires.0, c.requires.1) at y.turns);
+      fwd_kept = x.kept;
+      bwd_kept = y.kept;
+    }
