@@ -10,6 +10,13 @@ pub record Kept (x y : Half) : Type 0 where
   pub heap : length y.heap.now ≡ length x.heap.now
   pub base : y.base ≡ x.base
 
+-- the slices stay, and the heap is empty
+pub record Started (x : Half) (base : ℕ) (y : Half) : Type 0 where
+  pub labels : y.labels.now ≡ x.labels.now
+  pub heap : y.heap.now ≡ x.heap.now
+  pub base_is : y.base ≡ base
+  pub empty : y.len ≡ 0
+
 -- nothing but labels changes
 pub record SameHeap (x y : Half) : Type 0 where
   pub heap : y.heap.now ≡ x.heap.now

@@ -8,7 +8,7 @@
 ghost use Rattle.std.specs.Prelude.{◌≡◌, ◌+◌, ◌*◌, ◌^◌, ◌<◌, ◌≤◌, ltb, length};
 ghost use Rattle.rules.specs.Query.{lower};
 ghost use Rattle.halves.specs.Labels.{of, label, seen, stamp, put_label, put_settled, Before};
-ghost use Rattle.halves.specs.Slices.{SameHeap, OfferingTo, OffersTo, RelaxingFrom, RelaxesFrom, EnteringInto, EntersInto};
+ghost use Rattle.halves.specs.Slices.{Started, SameHeap, OfferingTo, OffersTo, RelaxingFrom, RelaxesFrom, EnteringInto, EntersInto};
 
 use rules::{INVALID, WEIGHT_MAX};
 
@@ -52,6 +52,14 @@ pub struct Half<'a> {
 }
 
 impl Half<'_> {
+    // A new search of a base of which no stamp is, its heap empty.
+    pub fn start(&mut self, base: u64)
+        ensures { Started self.old base self.new }
+    {
+        self.base = base;
+        self.len = 0;
+    }
+
     // The label of v; the marks where it has none.
     pub fn load(&self, v: usize) -> Label
         requires { 4 * (v + 1) ≤ length self.now.labels.now }

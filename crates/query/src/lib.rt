@@ -9,12 +9,12 @@ ghost use Rattle.rules.specs.Refusals.{query_refusal};
 ghost use Rattle.rules.specs.Query.{query};
 ghost use Rattle.tables.specs.Lent.{hierarchy_of};
 ghost use Rattle.ends.specs.Given.{ends_of};
-ghost use Rattle.path_calculator.specs.Searching.{call_of};
+ghost use Rattle.path_calculator.specs.Searching.{Fresh, call_of};
 ghost use Rattle.query.specs.Rows.{ends_refusal, room_short};
-ghost use Rattle.query.specs.Answers.{answer, Tells, Hands, Handing, HandedBack, Routing, Routed};
-ghost use Rattle.query.specs.Routes.{answer_of};
+ghost use Rattle.query.specs.Answers.{answer, Tells, Hands, Handing, HandedBack};
+ghost use Rattle.query.specs.Routes.{answer_of, RoutingOn, RoutedOn};
 
-use halves::Ends;
+use halves::{Ends, Half};
 use rules::{INVALID, Refusal, WEIGHT_MAX};
 use tables::FastGraph;
 
@@ -102,22 +102,21 @@ pub struct ShortestPath {
 // The walk through v, counted before anything is written: refusal 25 leaves the path alone.
 fn hand_back(
     g: &FastGraph<'_>,
-    fl: &[u64],
-    bl: &[u64],
-    base: u64,
+    fwd: &Half<'_>,
+    bwd: &Half<'_>,
     v: usize,
     sum: u64,
     path: &mut [u32],
 ) -> Result<Option<ShortestPath>, Refusal>
-    requires { Handing g.now.num_nodes (hierarchy_of g.now) fl.now bl.now base v }
-    ensures { HandedBack g.now.num_nodes (hierarchy_of g.now) fl.now bl.now base v sum (answer_of result) path.old path.new }
+    requires { (bwd.now.base ≡ fwd.now.base) × Handing g.now.num_nodes (hierarchy_of g.now) fwd.now.labels.now bwd.now.labels.now fwd.now.base v }
+    ensures { HandedBack g.now.num_nodes (hierarchy_of g.now) fwd.now.labels.now bwd.now.labels.now fwd.now.base v sum (answer_of result) path.old path.new }
 {
     let room = path.len();
-    let count = paths::extract_nodes(g, fl, bl, base, v, &mut path[..0], room + 1);
+    let count = paths::extract_nodes(g, fwd, bwd, v, &mut path[..0], room + 1);
     if room < count {
         return Err(Refusal::Walk);
     }
-    let written = paths::extract_nodes(g, fl, bl, base, v, path, count);
+    let written = paths::extract_nodes(g, fwd, bwd, v, path, count);
     Ok(Some(ShortestPath {
         weight: sum,
         count: written,
@@ -130,20 +129,17 @@ pub fn route(
     sources: &Ends<'_>,
     targets: &Ends<'_>,
     path: &mut [u32],
-    fl: &mut [u64],
-    bl: &mut [u64],
-    fh: &mut [u64],
-    bh: &mut [u64],
-    base: u64,
+    fwd: &mut Half<'_>,
+    bwd: &mut Half<'_>,
 ) -> Result<Option<ShortestPath>, Refusal>
-    requires { Routing (call_of g.now sources.now targets.now path.old (length fl.old ∷ length bl.old ∷ length fh.old ∷ length bh.old ∷ [])) fl.old bl.old base }
-    ensures { Routed (call_of g.now sources.now targets.now path.old (length fl.old ∷ length bl.old ∷ length fh.old ∷ length bh.old ∷ [])) (answer_of result) path.new fl.new bl.new base }
+    requires { Fresh fwd.old bwd.old × RoutingOn (call_of g.now sources.now targets.now path.old) fwd.old bwd.old }
+    ensures { RoutedOn (call_of g.now sources.now targets.now path.old) fwd.old bwd.old (answer_of result) path.new fwd.new bwd.new }
 {
-    let best = path_calculator::search(g, sources, targets, fl, bl, fh, bh, base);
+    let best = path_calculator::search(g, sources, targets, fwd, bwd);
     if best.node == INVALID {
         return Ok(None);
     }
-    hand_back(g, fl, bl, base, best.node as usize, best.sum, path)
+    hand_back(g, fwd, bwd, best.node as usize, best.sum, path)
 }
 
 // The whole query: the refusals, then the route. Labels are cleared, so that whatever the slices held does not matter; 1 is then a base
@@ -172,7 +168,19 @@ pub fn calc_path(
     )?;
     halves::clear(g.num_nodes, fl);
     halves::clear(g.num_nodes, bl);
-    route(g, sources, targets, path, fl, bl, fh, bh, 1)
+    let mut fwd = Half {
+        labels: fl,
+        heap: fh,
+        base: 1,
+        len: 0,
+    };
+    let mut bwd = Half {
+        labels: bl,
+        heap: bh,
+        base: 1,
+        len: 0,
+    };
+    route(g, sources, targets, path, &mut fwd, &mut bwd)
 }
 
 // The number, the weight and the count of an answer: 0, the mark and 0 where they are not its own.
