@@ -5,7 +5,12 @@ use Rattle.rules.specs.TableRules.{table_test}
 use Rattle.rules.specs.Refusals.{short, query_scratch}
 use Rattle.rules.specs.Query.{Answered, query}
 use Rattle.path_calculator.specs.Searching.{Earlier}
+use Rattle.tables.specs.declared.FastGraph.{FastGraph}
+use Rattle.tables.specs.Lent.{hierarchy_of}
+use Rattle.halves.specs.declared.Half.{Half}
+use Rattle.halves.specs.Slices.{Kept, AsLong}
 use Rattle.query.specs.Answers.{Answer, Tells}
+use Rattle.query.specs.Routes.{scratch_of}
 use Rattle.calc_paths.specs.Many.{Answers, PathsCall, PathsAnswered, own_places, pair_call}
 
 abbrev pub columns_of : List ℕ → List ℕ → List ℕ → List ℕ → Answers
@@ -69,3 +74,21 @@ pub record Fillable (c : PathsCall) (fl bl : List ℕ) : Type 0 where
   pub length_room : length c.sources ≤ length c.lent.lengths
   pub path_room : length c.sources * c.nodes ≤ length c.lent.paths
   pub earlier : Earlier c.nodes 1 fl bl
+
+-- The same of the code's tables and halves.
+abbrev pub PairingOn : FastGraph → List ℕ → Half → Half → Type 0
+PairingOn g path x y = Pairing g.num_nodes (hierarchy_of g) path x.labels.now y.labels.now x.heap.now y.heap.now x.base
+
+pub record PairedOn (g : FastGraph) (s t : ℕ) (path : List ℕ) (x y : Half) (r : Answer) (path' : List ℕ) (x' y' : Half) : Type 0 where
+  pub paired : Paired g.num_nodes (hierarchy_of g) s t path (scratch_of x y) x.base r path' x'.labels.now y'.labels.now
+  pub fwd_kept : Kept x x'
+  pub bwd_kept : Kept y y'
+
+abbrev pub FillingOn : FastGraph → List ℕ → List ℕ → ℕ → Answers → Half → Half → Type 0
+FillingOn g sources targets k lent x y =
+    Filling g.num_nodes (hierarchy_of g) sources targets k lent x.labels.now y.labels.now x.heap.now y.heap.now
+
+pub record FilledOn (g : FastGraph) (s t k : ℕ) (lent : Answers) (x y : Half) (after : Answers) (x' y' : Half) : Type 0 where
+  pub filled : Filled g.num_nodes (hierarchy_of g) s t k lent (scratch_of x y) after x'.labels.now y'.labels.now
+  pub fwd_long : AsLong x x'
+  pub bwd_long : AsLong y y'

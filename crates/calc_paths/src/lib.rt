@@ -7,11 +7,12 @@ ghost use Rattle.std.specs.Prelude.{[], ◌∷◌, ◌≡◌, ◌*◌, length, g
 ghost use Rattle.rules.specs.Refusals.{first_met, short};
 ghost use Rattle.rules.specs.Refused.{code};
 ghost use Rattle.tables.specs.Lent.{hierarchy_of};
-ghost use Rattle.query.specs.Routes.{answer_of};
+ghost use Rattle.path_calculator.specs.Searching.{Fresh};
+ghost use Rattle.query.specs.Routes.{answer_of, scratch_of};
 ghost use Rattle.calc_paths.specs.Many.{many_rows, answers, calc_paths};
-ghost use Rattle.calc_paths.specs.Filling.{columns_of, paths_call, answered, Pairing, Paired, Filling, Filled, Fillable};
+ghost use Rattle.calc_paths.specs.Filling.{columns_of, paths_call, answered, PairingOn, PairedOn, FillingOn, FilledOn, Fillable};
 
-use halves::Ends;
+use halves::{Ends, Half};
 use query::ShortestPath;
 use rules::Refusal;
 use tables::FastGraph;
@@ -77,14 +78,11 @@ fn calc_pair(
     source: u32,
     target: u32,
     path: &mut [u32],
-    fl: &mut [u64],
-    bl: &mut [u64],
-    fh: &mut [u64],
-    bh: &mut [u64],
-    base: u64,
+    fwd: &mut Half<'_>,
+    bwd: &mut Half<'_>,
 ) -> Result<Option<ShortestPath>, Refusal>
-    requires { Pairing g.now.num_nodes (hierarchy_of g.now) path.old fl.old bl.old fh.old bh.old base }
-    ensures { Paired g.now.num_nodes (hierarchy_of g.now) source target path.old (length fl.old ∷ length bl.old ∷ length fh.old ∷ length bh.old ∷ []) base (answer_of result) path.new fl.new bl.new }
+    requires { Fresh fwd.old bwd.old × PairingOn g.now path.old fwd.old bwd.old }
+    ensures { PairedOn g.now source target path.old fwd.old bwd.old (answer_of result) path.new fwd.new bwd.new }
 {
     if g.num_nodes <= source as usize {
         return Err(Refusal::EndNode);
@@ -101,7 +99,7 @@ fn calc_pair(
         nodes: &[target],
         offsets: &[0],
     };
-    query::route(g, &source, &target, path, fl, bl, fh, bh, base)
+    query::route(g, &source, &target, path, fwd, bwd)
 }
 
 // Pair k, its answer put in its places.
@@ -114,27 +112,18 @@ fn fill_pair(
     weights: &mut [u64],
     lengths: &mut [u32],
     paths: &mut [u32],
-    fl: &mut [u64],
-    bl: &mut [u64],
-    fh: &mut [u64],
-    bh: &mut [u64],
+    fwd: &mut Half<'_>,
+    bwd: &mut Half<'_>,
 )
-    requires { Filling g.now.num_nodes (hierarchy_of g.now) sources.now targets.now k (columns_of numbers.old weights.old lengths.old paths.old) fl.old bl.old fh.old bh.old }
-    ensures { Filled g.now.num_nodes (hierarchy_of g.now) (get_or sources.now k 0) (get_or targets.now k 0) k (columns_of numbers.old weights.old lengths.old paths.old) (length fl.old ∷ length bl.old ∷ length fh.old ∷ length bh.old ∷ []) (columns_of numbers.new weights.new lengths.new paths.new) fl.new bl.new }
+    requires { FillingOn g.now sources.now targets.now k (columns_of numbers.old weights.old lengths.old paths.old) fwd.old bwd.old }
+    ensures { FilledOn g.now (get_or sources.now k 0) (get_or targets.now k 0) k (columns_of numbers.old weights.old lengths.old paths.old) fwd.old bwd.old (columns_of numbers.new weights.new lengths.new paths.new) fwd.new bwd.new }
 {
     let begin = k * g.num_nodes;
     let end = begin + g.num_nodes;
-    let answer = calc_pair(
-        g,
-        sources[k],
-        targets[k],
-        &mut paths[begin..end],
-        fl,
-        bl,
-        fh,
-        bh,
-        2 * k as u64 + 1,
-    );
+    fwd.start(2 * k as u64 + 1);
+    bwd.start(2 * k as u64 + 1);
+    let part = &mut paths[begin..end];
+    let answer = calc_pair(g, sources[k], targets[k], part, fwd, bwd);
     let (number, weight, count) = query::numbers(answer);
     numbers[k] = number;
     weights[k] = weight;
@@ -150,17 +139,15 @@ fn fill_all(
     weights: &mut [u64],
     lengths: &mut [u32],
     paths: &mut [u32],
-    fl: &mut [u64],
-    bl: &mut [u64],
-    fh: &mut [u64],
-    bh: &mut [u64],
+    fwd: &mut Half<'_>,
+    bwd: &mut Half<'_>,
 )
-    requires { Fillable (paths_call g.now.num_nodes (hierarchy_of g.now) sources.now targets.now (columns_of numbers.old weights.old lengths.old paths.old) (length fl.old ∷ length bl.old ∷ length fh.old ∷ length bh.old ∷ [])) fl.old bl.old }
-    ensures { columns_of numbers.new weights.new lengths.new paths.new ≡ answers (paths_call g.now.num_nodes (hierarchy_of g.now) sources.now targets.now (columns_of numbers.old weights.old lengths.old paths.old) (length fl.old ∷ length bl.old ∷ length fh.old ∷ length bh.old ∷ [])) }
+    requires { Fillable (paths_call g.now.num_nodes (hierarchy_of g.now) sources.now targets.now (columns_of numbers.old weights.old lengths.old paths.old) (scratch_of fwd.old bwd.old)) fwd.old.labels.now bwd.old.labels.now }
+    ensures { columns_of numbers.new weights.new lengths.new paths.new ≡ answers (paths_call g.now.num_nodes (hierarchy_of g.now) sources.now targets.now (columns_of numbers.old weights.old lengths.old paths.old) (scratch_of fwd.old bwd.old)) }
 {
     for k in 0..sources.len() {
         fill_pair(
-            g, sources, targets, k, numbers, weights, lengths, paths, fl, bl, fh, bh,
+            g, sources, targets, k, numbers, weights, lengths, paths, fwd, bwd,
         );
     }
 }
@@ -197,8 +184,20 @@ pub fn calc_paths(
     )?;
     halves::clear(g.num_nodes, fl);
     halves::clear(g.num_nodes, bl);
+    let mut fwd = Half {
+        labels: fl,
+        heap: fh,
+        base: 1,
+        len: 0,
+    };
+    let mut bwd = Half {
+        labels: bl,
+        heap: bh,
+        base: 1,
+        len: 0,
+    };
     fill_all(
-        g, sources, targets, numbers, weights, lengths, paths, fl, bl, fh, bh,
+        g, sources, targets, numbers, weights, lengths, paths, &mut fwd, &mut bwd,
     );
     Ok(())
 }

@@ -10,6 +10,11 @@ pub record Kept (x y : Half) : Type 0 where
   pub heap : length y.heap.now ≡ length x.heap.now
   pub base : y.base ≡ x.base
 
+-- of whatever base
+pub record AsLong (x y : Half) : Type 0 where
+  pub labels : length y.labels.now ≡ length x.labels.now
+  pub heap : length y.heap.now ≡ length x.heap.now
+
 -- the slices stay, and the heap is empty
 pub record Started (x : Half) (base : ℕ) (y : Half) : Type 0 where
   pub labels : y.labels.now ≡ x.labels.now

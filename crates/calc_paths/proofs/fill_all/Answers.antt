@@ -8,5 +8,6 @@ loop-k-init c = going_first _ _ _ _ _ _ _ _ _ c.requires
 
 pub loop-k-preserved : goal.loop-k-preserved
 loop-k-preserved c =
-    going_on _ _ _ _ _ _ _ _ _ c.requires _ _ _ _ _ _ c.loop-k.invariant (omega arith) _ _ _ _ _ c.fill_pair.ensures
-    c.fill_pair.auto.numbers c.fill_pair.auto.weights c.fill_pair.auto.lengths c.fill_pair.auto.paths c.fill_pair.auto.fl c.fill_pair.auto.bl c.fill_pair.auto.fh c.fill_pair.auto.bh
+    let f = c.fill_pair.ensures in
+    going_on _ _ _ _ _ _ _ _ _ c.requires _ _ _ _ _ _ c.loop-k.invariant (omega arith) _ _ _ _ _ f.filled
+    c.fill_pair.auto.numbers c.fill_pair.auto.weights c.fill_pair.auto.lengths c.fill_pair.auto.paths f.fwd_long.labels f.bwd_long.labels f.fwd_long.heap f.bwd_long.heap

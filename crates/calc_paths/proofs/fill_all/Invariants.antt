@@ -6,4 +6,6 @@ use Rattle.calc_paths.proofs.fill_all.Given as goal
 
 abbrev pub invariant-loop-k : goal.invariant-loop-k
 invariant-loop-k l =
-    Going l.g.num_nodes (hierarchy_of l.g) l.sources l.targets (columns_of l.initial.numbers l.initial.weights l.initial.lengths l.initial.paths) l.initial.fl l.initial.bl l.initial.fh l.initial.bh (columns_of l.numbers l.weights l.lengths l.paths) l.fl l.bl l.fh l.bh l.k
+    let x = l.initial.fwd in
+    let y = l.initial.bwd in
+    Going l.g.num_nodes (hierarchy_of l.g) l.sources l.targets (columns_of l.initial.numbers l.initial.weights l.initial.lengths l.initial.paths) x.labels.now y.labels.now x.heap.now y.heap.now (columns_of l.numbers l.weights l.lengths l.paths) l.fwd.labels.now l.bwd.labels.now l.fwd.heap.now l.bwd.heap.now l.k
