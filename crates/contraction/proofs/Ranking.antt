@@ -29,7 +29,7 @@ use Rattle.lists.proofs.Walks.{first_out}
 use Rattle.graph.specs.Stands.{Stands}
 use Rattle.graph.proofs.Reading.{own_walk, outs_walk, own_arcs, reads_outs, reads_ins}
 use Rattle.search.specs.Searching.{Lent}
-use Rattle.node_contractor.specs.declared.Work.{Work}
+use Rattle.node_contractor.specs.Work.{Work}
 use Rattle.node_contractor.specs.Promises.{Contractible, Contracts}
 use Rattle.entries.specs.Laid.{side_of, part_of, laid_part}
 use Rattle.entries.specs.Promises.{Layable, Lays}

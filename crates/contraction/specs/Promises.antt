@@ -14,7 +14,7 @@ use Rattle.rules.specs.Refused.{number_of}
 use Rattle.lists.specs.Memory.{memory}
 use Rattle.graph.specs.Promises.{Spacious}
 use Rattle.search.specs.Searching.{Lent}
-use Rattle.node_contractor.specs.declared.Work.{Work}
+use Rattle.node_contractor.specs.Work.{Work}
 use Rattle.contraction.specs.declared.Ranked.{Ranked}
 use Rattle.contraction.specs.Ranks.{Given, given, call, Parts, parts_of, At}
 

@@ -4,7 +4,7 @@ use Rattle.rules.specs.Columns.{Links, Hierarchy, Table, Side, forward, backward
 use Rattle.rules.specs.Refusals.{BuildCall}
 use Rattle.rules.specs.Build.{Level, raws, Building}
 use Rattle.search.specs.Searching.{Lent}
-use Rattle.node_contractor.specs.declared.Work.{Work}
+use Rattle.node_contractor.specs.Work.{Work}
 use Rattle.node_contractor.specs.Promises.{Rests}
 use Rattle.entries.specs.Laid.{Part, part_of, laid_part}
 

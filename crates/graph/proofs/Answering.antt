@@ -45,6 +45,9 @@ module _ {n pool : ℕ} {m m' : Memory} {w w' : List ℕ} (same : Same m w m' w'
   unfolding still_addable
   answers_after x e k = rw (← (still x).1) (answers_moved e k)
 
+pub kept_all : (g : PreparationGraph) → Kept g g
+kept_all g = record { pool = refl; arcs = refl; weights = refl; nodes = refl }
+
 pub kept_on : {g g' g'' : PreparationGraph} → Kept g g' → Kept g' g'' → Kept g g''
 kept_on k l =
     record { pool = l.pool ∙ k.pool; arcs = l.arcs ∙ k.arcs; weights = l.weights ∙ k.weights; nodes = l.nodes ∙ k.nodes }

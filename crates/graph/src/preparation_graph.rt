@@ -1,5 +1,5 @@
 // The preparation graph: its arcs in a lent pool, each in two lists (crates/lists says how they lie).
-ghost use Rattle.std.specs.Prelude.{◌≡◌, List, [], ◌∷◌, ◌++◌, ℕ, ◌+◌, ◌*◌, ◌-◌, ◌<◌, ◌≤◌, length};
+ghost use Rattle.std.specs.Prelude.{◌≡◌, List, [], ◌∷◌, ◌++◌, ℕ, ◌+◌, ◌*◌, ◌-◌, ◌<◌, ◌≤◌, length, OnErr};
 ghost use Rattle.rules.specs.Numbers.{invalid};
 ghost use Rattle.graph.specs.declared.preparation_graph.Pool.{Pool as State};
 ghost use Rattle.rules.specs.Graph.{Arc, add_or_reduce, disconnect as without_node};
@@ -103,6 +103,7 @@ impl<'a> PreparationGraph<'a> {
             (x : Addable n self.old.pool (memory self.old.arcs.now self.old.nodes.now) self.old.weights.now self.old.state (arc tail head weight centre) g) →
             Answers n self.old.pool (memory self.old.arcs.now self.old.nodes.now) self.old.weights.now (memory self.new.arcs.now self.new.nodes.now)
             self.new.weights.now x.stands.ids (g ++ arc tail head weight centre ∷ []) (told self.new.state result) }
+        ensures refused { OnErr result (self.new.state ≡ self.old.state) }
         ensures kept { Kept self.old self.new }
     {
         let Pool { free, fresh } = self.state;
@@ -139,6 +140,7 @@ impl<'a> PreparationGraph<'a> {
             (x : Addable n self.old.pool (memory self.old.arcs.now self.old.nodes.now) self.old.weights.now self.old.state (arc tail head weight centre) g) →
             Answers n self.old.pool (memory self.old.arcs.now self.old.nodes.now) self.old.weights.now (memory self.new.arcs.now self.new.nodes.now)
             self.new.weights.now x.stands.ids (add_or_reduce (arc tail head weight centre) g) (told self.new.state result) }
+        ensures refused { OnErr result (self.new.state ≡ self.old.state) }
         ensures kept { Kept self.old self.new }
     {
         let reduced = self.reduce_edge(tail, head, weight, centre);
