@@ -5,8 +5,6 @@ use Rattle.rules.specs.Build.{refused}
 use Rattle.rules.specs.Refused.{number_of}
 use Rattle.input_graph.specs.Given.{links}
 use Rattle.graph.specs.Promises.{told}
-use Rattle.graph.proofs.Answering.{kept_on}
-use Rattle.search.proofs.Laws.{search_kept_on}
 use Rattle.contraction.specs.Ranks.{given, staged}
 use Rattle.contraction.proofs.Ranking.{stopped}
 use Rattle.contraction.proofs.Running.{no_room, starting, starting_as, came_as, from_links_went}
