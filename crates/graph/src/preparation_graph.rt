@@ -30,7 +30,7 @@ pub struct PreparationGraph<'a> {
 }
 
 // A graph of n nodes with no arc.
-fn clear(nodes: &mut [u32], n: usize) -> Pool
+pub fn clear(nodes: &mut [u32], n: usize) -> Pool
     requires { 4 * n ≤ length nodes.old }
     ensures { (arcs weights : List ℕ) (pool : ℕ) → pool ≤ invalid → 6 * pool ≤ length arcs → pool ≤ length weights →
         Stands n pool (memory arcs nodes.new) weights result [] }
