@@ -29,18 +29,18 @@ use Rattle.lists.proofs.Walks.{first_out}
 use Rattle.graph.specs.Stands.{Stands}
 use Rattle.graph.proofs.Reading.{own_walk, outs_walk, own_arcs, reads_outs, reads_ins}
 use Rattle.search.specs.Searching.{Lent}
-use Rattle.node_contractor.specs.declared.Work.{Work}
+use Rattle.node_contractor.specs.Work.{Work}
 use Rattle.node_contractor.specs.Promises.{Contractible, Contracts}
 use Rattle.entries.specs.Laid.{side_of, part_of, laid_part}
 use Rattle.entries.specs.Promises.{Layable, Lays}
 use Rattle.entries.proofs.Laying.{raws_more, level_size}
-use Rattle.contraction.specs.declared.Ranked.{Ranked}
+use Rattle.contraction.specs.Ranks.{Stage}
 use Rattle.contraction.specs.Ranks.{Given, call, Parts, parts, laid_parts, At}
 use Rattle.contraction.specs.Promises.{Came, Stepping}
 use Rattle.contraction.proofs.Laid.{laid_long, laid_even, laid_starts}
 
 -- What a step came to.
-pub came : {c : BuildCall} {s : Step Building} {t : Parts} {m : Lent} {x : Ranked} (b : Building) → s ≡ went b → At c b t m x.work x.fwd x.bwd →
+pub came : {c : BuildCall} {s : Step Building} {t : Parts} {m : Lent} {x : Stage} (b : Building) → s ≡ went b → At c b t m x.work x.fwd x.bwd →
     Came c s t m (Ok x)
 came {x = x} b e at =
     record {

@@ -23,12 +23,12 @@ use Rattle.lists.specs.Memory.{memory}
 use Rattle.graph.specs.declared.preparation_graph.Pool.{Pool}
 use Rattle.graph.specs.Stands.{Stands}
 use Rattle.graph.proofs.Standing.{within_pool}
-use Rattle.search.specs.declared.witness_search.WitnessSearch.{WitnessSearch}
+use Rattle.search.specs.declared.witness_search.Round.{Round}
 use Rattle.search.specs.Labels.{Stamped}
 use Rattle.search.specs.Searching.{Lent, lent}
-use Rattle.node_contractor.specs.declared.Work.{Work}
+use Rattle.node_contractor.specs.Work.{Work}
 use Rattle.entries.specs.Laid.{laid_part, four_over, begun_of, begun}
-use Rattle.contraction.specs.declared.Ranked.{Ranked}
+use Rattle.contraction.specs.Ranks.{Stage}
 use Rattle.contraction.specs.Ranks.{Given, call, Parts, laid_parts, At}
 use Rattle.contraction.specs.Promises.{Accepted, Run, Came, Stepping, first, Starting, Accepting}
 use Rattle.contraction.proofs.Ranking.{came}
@@ -70,14 +70,14 @@ module _ {g : Given} {limit pool r : ℕ} {t : Parts} {m : Lent} {x : Work} {fwd
     pub stepping : Stepping g y.building (drop (suc r) g.order) limit pool r v t m x fwd bwd
     stepping = record { ok = y.ok; run = next_run; rank = y.rank; at = y.at }
 
-    module _ {t' : Parts} {m' : Lent} {w : Result Ranked Refusal} (step : Came c (rank_step c v y.building) t' m' w) where
+    module _ {t' : Parts} {m' : Lent} {w : Result Stage Refusal} (step : Came c (rank_step c v y.building) t' m' w) where
       pub gives_up : (e : Refusal) → w ≡ Err e → rank_steps c g.order (first g) ≡ refused (number_of e)
       unfolding rank_steps and_then
       gives_up e is =
           let e' = step.no e is in
           sym y.same ∙ ap (λ vs. rank_steps c vs y.building) next ∙ rw (e', rank_steps)
 
-      pub goes_on : (x' : Ranked) → w ≡ Ok x' → Running g limit pool (r + 1) t' m' x'.work x'.fwd x'.bwd
+      pub goes_on : (x' : Stage) → w ≡ Ok x' → Running g limit pool (r + 1) t' m' x'.work x'.fwd x'.bwd
       unfolding rank_steps and_then
       goes_on x' e =
           let k = step.came x' e in
@@ -114,7 +114,7 @@ module _ (g : Given) (limit pool : ℕ) where
   unfolding contraction from_links in_pool and_then
   took_in h = rw (le-leb (length (graph_of g.links)) pool h, contraction, from_links, in_pool)
 
-pub came_as : {c : BuildCall} {s s' : Step Building} {t : Parts} {m : Lent} {w : Result Ranked Refusal} → s' ≡ s → Came c s t m w → Came c s' t m w
+pub came_as : {c : BuildCall} {s s' : Step Building} {t : Parts} {m : Lent} {w : Result Stage Refusal} → s' ≡ s → Came c s t m w → Came c s' t m w
 came_as e k =
     record {
       came = λ x h. let b = k.came x h in (b.0, e ∙ b.1, b.2);
@@ -123,7 +123,7 @@ came_as e k =
 
 module _ {g : Given} {limit pool : ℕ} {t : Parts} {m : Lent} (p : Accepting g limit pool t m) {arcs weights nodes labels : List ℕ} {state : Pool}
     (stands : Stands g.nodes pool (memory arcs nodes) weights state (graph_of g.links)) where
-  pub starting : (search : WitnessSearch) → search.base ≡ 0 → Stamped g.nodes labels 0 →
+  pub starting : (search : Round) → search.base ≡ 0 → Stamped g.nodes labels 0 →
       Starting g limit pool t (lent arcs weights nodes labels m.heap) (record { state = state; search = search })
   unfolding laid_parts laid_part four_over begun_of begun over raws flat_map
   starting search e stamped =
@@ -149,3 +149,12 @@ pub from_links_went : (g : Given) {pool : ℕ} {arcs weights nodes : List ℕ} {
     Stands g.nodes pool (memory arcs nodes) weights state (graph_of g.links) →
     contraction (call g limit pool) ≡ rank_steps (call g limit pool) g.order (first g)
 from_links_went g {pool} limit stands = took_in g limit pool (within_pool stands)
+
+-- the pool by another name
+pub stepping_as : {g : Given} {b : Building} {vs : List ℕ} {limit pool pool' r v : ℕ} {t : Parts} {m : Lent} {x : Work} {fwd bwd : ℕ} → pool' ≡ pool →
+    Stepping g b vs limit pool r v t m x fwd bwd → Stepping g b vs limit pool' r v t m x fwd bwd
+stepping_as e p = rw e p
+
+pub starting_as : {g : Given} {limit pool pool' : ℕ} {t : Parts} {arcs weights nodes labels heap heap' : List ℕ} {x : Work} → pool' ≡ pool → heap' ≡ heap →
+    Starting g limit pool t (lent arcs weights nodes labels heap) x → Starting g limit pool' t (lent arcs weights nodes labels heap') x
+starting_as e h p = rw (e, h) p

@@ -14,8 +14,8 @@ use Rattle.rules.specs.Refused.{number_of}
 use Rattle.lists.specs.Memory.{memory}
 use Rattle.graph.specs.Promises.{Spacious}
 use Rattle.search.specs.Searching.{Lent}
-use Rattle.node_contractor.specs.declared.Work.{Work}
-use Rattle.contraction.specs.declared.Ranked.{Ranked}
+use Rattle.node_contractor.specs.Work.{Work}
+use Rattle.contraction.specs.Ranks.{Stage}
 use Rattle.contraction.specs.Ranks.{Given, given, call, Parts, parts_of, At}
 
 -- rows 1 to 9 are not met, and weights are what their column can hold
@@ -28,8 +28,8 @@ abbrev pub Run : BuildCall → List ℕ → Building → Type 0
 Run c vs b = RunOk c (link_list c.links) vs b
 
 -- The definition came to a building, which the slices hold; or it met the same refusal.
-pub record Came (c : BuildCall) (s : Step Building) (t : Parts) (m : Lent) (w : Result Ranked Refusal) : Type 0 where
-  pub came : (x : Ranked) → w ≡ Ok x → (b : Building) × (s ≡ went b) × At c b t m x.work x.fwd x.bwd
+pub record Came (c : BuildCall) (s : Step Building) (t : Parts) (m : Lent) (w : Result Stage Refusal) : Type 0 where
+  pub came : (x : Stage) → w ≡ Ok x → (b : Building) × (s ≡ went b) × At c b t m x.work x.fwd x.bwd
   pub no : (e : Refusal) → w ≡ Err e → s ≡ refused (number_of e)
 
 -- the node v of rank r is next
@@ -39,7 +39,7 @@ pub record Stepping (g : Given) (b : Building) (vs : List ℕ) (limit pool r v :
   pub rank : length b.levels ≡ r
   pub at : At (call g limit pool) b t m x fwd bwd
 
-abbrev pub Steps : (limit pool r v : ℕ) → Parts → Lent → Work → (fwd bwd : ℕ) → Parts → Lent → Result Ranked Refusal → Type 0
+abbrev pub Steps : (limit pool r v : ℕ) → Parts → Lent → Work → (fwd bwd : ℕ) → Parts → Lent → Result Stage Refusal → Type 0
 Steps limit pool r v t m x fwd bwd t' m' w =
     (g : Given) (b : Building) (vs : List ℕ) → Stepping g b vs limit pool r v t m x fwd bwd →
     Came (call g limit pool) (rank_step (call g limit pool) v b) t' m' w
@@ -52,7 +52,7 @@ pub record Starting (g : Given) (limit pool : ℕ) (t : Parts) (m : Lent) (x : W
   pub ok : Accepted (call g limit pool)
   pub at : At (call g limit pool) (first g) t m x 0 0
 
-abbrev pub Starts : (limit pool : ℕ) → List ℕ → Parts → Lent → Work → Parts → Lent → Result Ranked Refusal → Type 0
+abbrev pub Starts : (limit pool : ℕ) → List ℕ → Parts → Lent → Work → Parts → Lent → Result Stage Refusal → Type 0
 Starts limit pool order t m x t' m' w =
     (n : ℕ) (l : Links) (h : Hierarchy) (s : List ℕ) → let g = given n l order h s in
     Starting g limit pool t m x → Came (call g limit pool) (rank_steps (call g limit pool) order (first g)) t' m' w
@@ -66,7 +66,7 @@ pub record Accepting (g : Given) (limit pool : ℕ) (t : Parts) (m : Lent) : Typ
   pub labels_room : 2 * g.nodes ≤ length m.labels
   pub heap_room : 2 * (pool + 1) ≤ length m.heap
 
-abbrev pub Comes : ℕ → Links → List ℕ → (limit pool : ℕ) → Parts → Lent → Parts → Lent → Result Ranked Refusal → Type 0
+abbrev pub Comes : ℕ → Links → List ℕ → (limit pool : ℕ) → Parts → Lent → Parts → Lent → Result Stage Refusal → Type 0
 Comes n l order limit pool t m t' m' w =
     (h : Hierarchy) (s : List ℕ) → let g = given n l order h s in
     Accepting g limit pool t m → Came (call g limit pool) (contraction (call g limit pool)) t' m' w

@@ -1,11 +1,13 @@
 -- What is given, and how far the tables are laid.
-use Rattle.std.specs.Prelude.{List, ◌≡◌, ℕ, ◌*◌, ◌^◌, ◌≤◌, length}
+use Rattle.std.specs.Prelude.{List, ◌≡◌, ℕ, ◌*◌, ◌^◌, ◌≤◌, length, Result, Ok, Err}
 use Rattle.rules.specs.Columns.{Links, Hierarchy, Table, Side, forward, backward, room}
 use Rattle.rules.specs.Refusals.{BuildCall}
 use Rattle.rules.specs.Build.{Level, raws, Building}
 use Rattle.search.specs.Searching.{Lent}
-use Rattle.node_contractor.specs.declared.Work.{Work}
+use Rattle.node_contractor.specs.Work.{Work}
 use Rattle.node_contractor.specs.Promises.{Rests}
+use Rattle.rules.specs.declared.Refusal.{Refusal}
+use Rattle.contraction.specs.declared.Ranked.{Ranked}
 use Rattle.entries.specs.Laid.{Part, part_of, laid_part}
 
 -- what of a call is no number of the code
@@ -48,3 +50,13 @@ pub record At (c : BuildCall) (b : Building) (t : Parts) (m : Lent) (x : Work) (
   pub laid : t ≡ laid_parts b.levels c.lent
   pub fwd_count : Counted forward c.lent.forward b.levels fwd
   pub bwd_count : Counted backward c.lent.backward b.levels bwd
+
+-- how far the ranks have come: what graph and search are, and the entries so far
+pub record Stage : Type 0 where
+  pub work : Work
+  pub fwd : ℕ
+  pub bwd : ℕ
+
+abbrev pub staged : Work → Result Ranked Refusal → Result Stage Refusal
+staged w (Ok r) = Ok (record { work = w; fwd = r.fwd; bwd = r.bwd })
+staged w (Err e) = Err e

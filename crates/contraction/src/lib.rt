@@ -5,27 +5,30 @@ ghost use Rattle.std.specs.Prelude.{List, ℕ, ◌+◌};
 ghost use Rattle.rules.specs.Columns.{Links, Hierarchy};
 ghost use Rattle.rules.specs.Build.{Building};
 ghost use Rattle.input_graph.specs.Given.{links};
-ghost use Rattle.search.specs.Searching.{lent};
+ghost use Rattle.graph.specs.Promises.{Kept};
+ghost use Rattle.search.specs.Promises.{Kept as SearchKept};
+ghost use Rattle.node_contractor.specs.Work.{work, slices};
 ghost use Rattle.entries.specs.Laid.{four, part};
-ghost use Rattle.contraction.specs.Ranks.{Given, given, parts};
+ghost use Rattle.contraction.specs.Ranks.{Given, given, parts, staged};
 ghost use Rattle.contraction.specs.Promises.{Stepping, Steps, Starting, Starts, Accepting, Comes};
 
 use entries::{lay_rank, list_length};
-use graph::preparation_graph::from_input_graph;
-use node_contractor::{Work, contract_node};
+use graph::preparation_graph::PreparationGraph;
+use node_contractor::contract_node;
 use rules::Refusal;
+use search::witness_search::WitnessSearch;
 
-// What goes with the slices over the ranks: the work, and the entries so far of either table.
+// The entries so far of either table.
 #[derive(Clone, Copy)]
 pub struct Ranked {
-    pub work: Work,
     pub fwd: usize,
     pub bwd: usize,
 }
 
 // Rules 2 to 4 for the node of a rank.
 fn rank_step(
-    pool: u32,
+    graph: &mut PreparationGraph,
+    search: &mut WitnessSearch,
     limit: u32,
     r: usize,
     v: u32,
@@ -40,27 +43,26 @@ fn rank_step(
     bwd_neighbours: &mut [u32],
     bwd_weights: &mut [u64],
     bwd_ins: &mut [u32],
-    arcs: &mut [u32],
-    weights: &mut [u64],
-    nodes: &mut [u32],
-    labels: &mut [u64],
-    heap: &mut [u64],
 ) -> Result<Ranked, Refusal>
-    requires { (g : Given) × (b : Building) × (vs : List ℕ) × Stepping g b vs limit pool r v
+    requires { (g : Given) × (b : Building) × (vs : List ℕ) × Stepping g b vs limit graph.old.pool r v
         (parts (part fwd_starts.old (four fwd_bases.old fwd_neighbours.old fwd_weights.old fwd_ins.old))
         (part bwd_starts.old (four bwd_bases.old bwd_neighbours.old bwd_weights.old bwd_ins.old)))
-        (lent arcs.old weights.old nodes.old labels.old heap.old) ranked.work ranked.fwd ranked.bwd }
-    ensures { Steps limit pool r v
+        (slices graph.old search.old) (work graph.old search.old) ranked.fwd ranked.bwd }
+    ensures steps { Steps limit graph.old.pool r v
         (parts (part fwd_starts.old (four fwd_bases.old fwd_neighbours.old fwd_weights.old fwd_ins.old))
         (part bwd_starts.old (four bwd_bases.old bwd_neighbours.old bwd_weights.old bwd_ins.old)))
-        (lent arcs.old weights.old nodes.old labels.old heap.old) ranked.work ranked.fwd ranked.bwd
+        (slices graph.old search.old) (work graph.old search.old) ranked.fwd ranked.bwd
         (parts (part fwd_starts.new (four fwd_bases.new fwd_neighbours.new fwd_weights.new fwd_ins.new))
         (part bwd_starts.new (four bwd_bases.new bwd_neighbours.new bwd_weights.new bwd_ins.new)))
-        (lent arcs.new weights.new nodes.new labels.new heap.new) result }
+        (slices graph.new search.new) (staged (work graph.new search.new) result) }
+    ensures kept { Kept graph.old graph.new }
+    ensures search_kept { SearchKept search.old search.new }
 {
-    let Ranked { work, fwd, bwd } = ranked;
-    let first_out = nodes[4 * v as usize];
-    let first_in = nodes[4 * v as usize + 2];
+    let Ranked { fwd, bwd } = ranked;
+    let first_out = graph.nodes[4 * v as usize];
+    let first_in = graph.nodes[4 * v as usize + 2];
+    let arcs = &mut *graph.arcs;
+    let weights = &mut *graph.weights;
     let more_fwd = list_length(arcs, 0, first_out);
     let more_bwd = list_length(arcs, 1, first_in);
     if fwd_bases.len() - fwd < more_fwd {
@@ -97,9 +99,8 @@ fn rank_step(
         bwd_weights,
         bwd_ins,
     );
-    let work = contract_node(arcs, weights, nodes, labels, heap, pool, work, v, limit)?;
+    contract_node(graph, search, v, limit)?;
     Ok(Ranked {
-        work,
         fwd: fwd + more_fwd,
         bwd: bwd + more_bwd,
     })
@@ -107,10 +108,10 @@ fn rank_step(
 
 // Each node of the order in its turn.
 fn run_contraction_with_order(
-    pool: u32,
+    graph: &mut PreparationGraph,
+    search: &mut WitnessSearch,
     limit: u32,
     order: &[u32],
-    work: Work,
     fwd_starts: &mut [u32],
     fwd_bases: &mut [u32],
     fwd_neighbours: &mut [u32],
@@ -121,32 +122,26 @@ fn run_contraction_with_order(
     bwd_neighbours: &mut [u32],
     bwd_weights: &mut [u64],
     bwd_ins: &mut [u32],
-    arcs: &mut [u32],
-    weights: &mut [u64],
-    nodes: &mut [u32],
-    labels: &mut [u64],
-    heap: &mut [u64],
 ) -> Result<Ranked, Refusal>
-    requires { (n : ℕ) × (l : Links) × (h : Hierarchy) × (s : List ℕ) × Starting (given n l order.now h s) limit pool
+    requires { (n : ℕ) × (l : Links) × (h : Hierarchy) × (s : List ℕ) × Starting (given n l order.now h s) limit graph.old.pool
         (parts (part fwd_starts.old (four fwd_bases.old fwd_neighbours.old fwd_weights.old fwd_ins.old))
         (part bwd_starts.old (four bwd_bases.old bwd_neighbours.old bwd_weights.old bwd_ins.old)))
-        (lent arcs.old weights.old nodes.old labels.old heap.old) work }
-    ensures { Starts limit pool order.now
+        (slices graph.old search.old) (work graph.old search.old) }
+    ensures starts { Starts limit graph.old.pool order.now
         (parts (part fwd_starts.old (four fwd_bases.old fwd_neighbours.old fwd_weights.old fwd_ins.old))
         (part bwd_starts.old (four bwd_bases.old bwd_neighbours.old bwd_weights.old bwd_ins.old)))
-        (lent arcs.old weights.old nodes.old labels.old heap.old) work
+        (slices graph.old search.old) (work graph.old search.old)
         (parts (part fwd_starts.new (four fwd_bases.new fwd_neighbours.new fwd_weights.new fwd_ins.new))
         (part bwd_starts.new (four bwd_bases.new bwd_neighbours.new bwd_weights.new bwd_ins.new)))
-        (lent arcs.new weights.new nodes.new labels.new heap.new) result }
+        (slices graph.new search.new) (staged (work graph.new search.new) result) }
+    ensures kept { Kept graph.old graph.new }
+    ensures search_kept { SearchKept search.old search.new }
 {
-    let mut ranked = Ranked {
-        work,
-        fwd: 0,
-        bwd: 0,
-    };
+    let mut ranked = Ranked { fwd: 0, bwd: 0 };
     for (r, v) in order.iter().enumerate() {
         ranked = rank_step(
-            pool,
+            graph,
+            search,
             limit,
             r,
             *v,
@@ -161,11 +156,6 @@ fn run_contraction_with_order(
             bwd_neighbours,
             bwd_weights,
             bwd_ins,
-            arcs,
-            weights,
-            nodes,
-            labels,
-            heap,
         )?;
     }
     Ok(ranked)
@@ -173,8 +163,9 @@ fn run_contraction_with_order(
 
 // Rules 1 to 4.
 pub fn contraction(
+    graph: &mut PreparationGraph,
+    search: &mut WitnessSearch,
     n: usize,
-    pool: u32,
     tails: &[u32],
     heads: &[u32],
     link_weights: &[u32],
@@ -190,31 +181,28 @@ pub fn contraction(
     bwd_neighbours: &mut [u32],
     bwd_weights: &mut [u64],
     bwd_ins: &mut [u32],
-    arcs: &mut [u32],
-    weights: &mut [u64],
-    nodes: &mut [u32],
-    labels: &mut [u64],
-    heap: &mut [u64],
 ) -> Result<Ranked, Refusal>
-    requires { (h : Hierarchy) × (s : List ℕ) × Accepting (given n (links tails.now heads.now link_weights.now) order.now h s) limit pool
+    requires { (h : Hierarchy) × (s : List ℕ) × Accepting (given n (links tails.now heads.now link_weights.now) order.now h s) limit graph.old.pool
         (parts (part fwd_starts.old (four fwd_bases.old fwd_neighbours.old fwd_weights.old fwd_ins.old))
         (part bwd_starts.old (four bwd_bases.old bwd_neighbours.old bwd_weights.old bwd_ins.old)))
-        (lent arcs.old weights.old nodes.old labels.old heap.old) }
-    ensures { Comes n (links tails.now heads.now link_weights.now) order.now limit pool
+        (slices graph.old search.old) }
+    ensures comes { Comes n (links tails.now heads.now link_weights.now) order.now limit graph.old.pool
         (parts (part fwd_starts.old (four fwd_bases.old fwd_neighbours.old fwd_weights.old fwd_ins.old))
         (part bwd_starts.old (four bwd_bases.old bwd_neighbours.old bwd_weights.old bwd_ins.old)))
-        (lent arcs.old weights.old nodes.old labels.old heap.old)
+        (slices graph.old search.old)
         (parts (part fwd_starts.new (four fwd_bases.new fwd_neighbours.new fwd_weights.new fwd_ins.new))
         (part bwd_starts.new (four bwd_bases.new bwd_neighbours.new bwd_weights.new bwd_ins.new)))
-        (lent arcs.new weights.new nodes.new labels.new heap.new) result }
+        (slices graph.new search.new) (staged (work graph.new search.new) result) }
+    ensures kept { Kept graph.old graph.new }
+    ensures search_kept { SearchKept search.old search.new }
 {
-    let state = from_input_graph(arcs, weights, nodes, pool, n, tails, heads, link_weights)?;
-    let search = search::witness_search::new(labels, n);
+    graph.from_input_graph(n, tails, heads, link_weights)?;
+    search.clear(n);
     run_contraction_with_order(
-        pool,
+        graph,
+        search,
         limit,
         order,
-        Work { state, search },
         fwd_starts,
         fwd_bases,
         fwd_neighbours,
@@ -225,10 +213,5 @@ pub fn contraction(
         bwd_neighbours,
         bwd_weights,
         bwd_ins,
-        arcs,
-        weights,
-        nodes,
-        labels,
-        heap,
     )
 }

@@ -13,7 +13,7 @@ use Rattle.rules.specs.Refused.{number_of}
 use Rattle.search.specs.Searching.{Lent}
 use Rattle.entries.specs.Laid.{part, four, laid_part, four_over}
 use Rattle.marks.specs.Tables.{table_of, hierarchy}
-use Rattle.contraction.specs.declared.Ranked.{Ranked}
+use Rattle.contraction.specs.Ranks.{Stage}
 use Rattle.contraction.specs.Ranks.{parts, laid_parts, At}
 use Rattle.finish.specs.Promises.{Whole, Ending, Ended}
 use Rattle.fast_graph_builder.specs.Promises.{answer, Closing}
@@ -50,7 +50,7 @@ laid_table s ls t p b n w i o =
     (i k)
     (o k)
 
-module _ {c : BuildCall} {s : Step Building} {m : Lent} {n : ℕ} {order : List ℕ} {ranked : Result Ranked Refusal} {ranks fs fb fn fw fi fo bs bb bn bw bi bo : List ℕ}
+module _ {c : BuildCall} {s : Step Building} {m : Lent} {n : ℕ} {order : List ℕ} {ranked : Result Stage Refusal} {ranks fs fb fn fw fi fo bs bb bn bw bi bo : List ℕ}
     (p : Closing c s m n order ranked (hierarchy ranks (table_of fs fb fn fw fi fo) (table_of bs bb bn bw bi bo))) where
   -- it was refused
   pub closed_refused : (r : Refusal) → ranked ≡ Err r → {h : Hierarchy} → h ≡ marked (hierarchy ranks (table_of fs fb fn fw fi fo) (table_of bs bb bn bw bi bo)) →
@@ -58,7 +58,7 @@ module _ {c : BuildCall} {s : Step Building} {m : Lent} {n : ℕ} {order : List 
   unfolding built
   closed_refused r e h_is = rw (p.came.no r e) (λ i. answer (number_of r) ((h_is ∙ p.marks) i))
 
-  module _ (x : Ranked) (e : ranked ≡ Ok x) where
+  module _ (x : Stage) (e : ranked ≡ Ok x) where
     pub to : (b : Building) × (s ≡ went b) × At c b (parts (part fs (four fb fn fw fi)) (part bs (four bb bn bw bi))) m x.work x.fwd x.bwd
     to = p.came.came x e
 

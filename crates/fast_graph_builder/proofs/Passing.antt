@@ -26,7 +26,7 @@ use Rattle.std.specs.Prelude.{Result}
 use Rattle.rules.specs.declared.Refusal.{Refusal}
 use Rattle.search.specs.Searching.{Lent}
 use Rattle.marks.specs.Tables.{table_of, hierarchy}
-use Rattle.contraction.specs.declared.Ranked.{Ranked}
+use Rattle.contraction.specs.Ranks.{Stage}
 use Rattle.entries.specs.Laid.{part, four}
 use Rattle.contraction.specs.Ranks.{Given, given, call, parts, parts_of}
 use Rattle.contraction.specs.Promises.{Accepted, Came, Accepting}
@@ -233,7 +233,7 @@ module _ (m : Lent) {n : ℕ} {ts hs ws order : List ℕ} {limit pool : ℕ} {h 
         built_alike (contraction (call (given_with n (links ts hs ws) order h m) limit pool))
 
     -- the columns after the ranks
-    pub closing : {m' : Lent} {w : Result Ranked Refusal} {h' : Hierarchy} →
+    pub closing : {m' : Lent} {w : Result Stage Refusal} {h' : Hierarchy} →
         Came (call (given_with n (links ts hs ws) order h m) limit r) (contraction (call (given_with n (links ts hs ws) order h m) limit r)) (parts_of h') m' w →
         h'.ranks ≡ h.ranks → h'.forward.out_numbers ≡ h.forward.out_numbers → h'.backward.out_numbers ≡ h.backward.out_numbers →
         marked_table h'.forward ≡ marked_table h.forward → marked_table h'.backward ≡ marked_table h.backward →
@@ -255,7 +255,7 @@ module _ (m : Lent) {n : ℕ} {ts hs ws order : List ℕ} {limit pool : ℕ} {h 
 -- the same, by columns
 module _ (m : Lent) {n : ℕ} {ts hs ws order : List ℕ} {limit pool : ℕ} {ranks fs fb fn fw fi fo bs bb bn bw bi bo : List ℕ}
     (p : Passed (call (given_with n (links ts hs ws) order (hierarchy ranks (table_of fs fb fn fw fi fo) (table_of bs bb bn bw bi bo)) m) limit pool))
-    {r : ℕ} (x : Inside n pool r) {m' : Lent} {w : Result Ranked Refusal} {fs' fb' fn' fw' fi' bs' bb' bn' bw' bi' : List ℕ}
+    {r : ℕ} (x : Inside n pool r) {m' : Lent} {w : Result Stage Refusal} {fs' fb' fn' fw' fi' bs' bb' bn' bw' bi' : List ℕ}
     (came : Came (call (given_with n (links ts hs ws) order (hierarchy ranks (table_of fs fb fn fw fi fo) (table_of bs bb bn bw bi bo)) m) limit r)
     (contraction (call (given_with n (links ts hs ws) order (hierarchy ranks (table_of fs fb fn fw fi fo) (table_of bs bb bn bw bi bo)) m) limit r))
     (parts (part fs' (four fb' fn' fw' fi')) (part bs' (four bb' bn' bw' bi'))) m' w)

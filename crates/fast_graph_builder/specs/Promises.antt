@@ -7,7 +7,7 @@ use Rattle.rules.specs.Refusals.{BuildCall, build_refusal}
 use Rattle.rules.specs.Build.{Step, Building, Built, contraction, built}
 use Rattle.rules.specs.declared.Refusal.{Refusal}
 use Rattle.search.specs.Searching.{Lent}
-use Rattle.contraction.specs.declared.Ranked.{Ranked}
+use Rattle.contraction.specs.Ranks.{Stage}
 use Rattle.contraction.specs.Ranks.{parts_of}
 use Rattle.contraction.specs.Promises.{Accepted, Came}
 
@@ -30,7 +30,7 @@ pub record Inside (n pool r : ℕ) : Type 0 where
   pub enough : (r ≡ pool) ⊎ ((n * (n - 1) ≤ pool) × (n * (n - 1) ≤ r))
 
 -- the ranks are laid into h, or a refusal was met; what the ranks do not write is as it was lent
-pub record Closing (c : BuildCall) (s : Step Building) (m : Lent) (n : ℕ) (order : List ℕ) (ranked : Result Ranked Refusal) (h : Hierarchy) : Type 0 where
+pub record Closing (c : BuildCall) (s : Step Building) (m : Lent) (n : ℕ) (order : List ℕ) (ranked : Result Stage Refusal) (h : Hierarchy) : Type 0 where
   pub ok : Accepted c
   pub steps : s ≡ contraction c
   pub nodes_are : c.nodes ≡ n

@@ -8,11 +8,14 @@ ghost use Rattle.rules.specs.Refused.{code};
 ghost use Rattle.input_graph.specs.Given.{links};
 ghost use Rattle.search.specs.Searching.{Lent};
 ghost use Rattle.marks.specs.Tables.{table_of, hierarchy};
-ghost use Rattle.contraction.specs.Ranks.{given, call};
+ghost use Rattle.node_contractor.specs.Work.{Work};
+ghost use Rattle.contraction.specs.Ranks.{given, call, staged};
 ghost use Rattle.fast_graph_builder.specs.Promises.{answer, run, lengths, Inside, Closing, Passed};
 
 use contraction::Ranked;
-use rules::Refusal;
+use graph::preparation_graph::{Pool, PreparationGraph};
+use rules::{INVALID, Refusal};
+use search::witness_search::{Round, WitnessSearch};
 
 // A pool above what n nodes can ever use is as good as that.
 fn pool_inside(n: usize, pool: u64) -> u32
@@ -48,11 +51,11 @@ fn close(
     bwd_ins: &mut [u32],
     bwd_outs: &mut [u32],
 ) -> Result<(), Refusal>
-    requires { (c : BuildCall) × (s : Step Building) × (m : Lent) × Closing c s m n order.now ranked
+    requires { (c : BuildCall) × (s : Step Building) × (m : Lent) × (w : Work) × Closing c s m n order.now (staged w ranked)
         (hierarchy ranks.old
         (table_of fwd_starts.old fwd_bases.old fwd_neighbours.old fwd_weights.old fwd_ins.old fwd_outs.old)
         (table_of bwd_starts.old bwd_bases.old bwd_neighbours.old bwd_weights.old bwd_ins.old bwd_outs.old)) }
-    ensures { (c : BuildCall) (s : Step Building) (m : Lent) → Closing c s m n order.now ranked
+    ensures { (c : BuildCall) (s : Step Building) (m : Lent) (w : Work) → Closing c s m n order.now (staged w ranked)
         (hierarchy ranks.old
         (table_of fwd_starts.old fwd_bases.old fwd_neighbours.old fwd_weights.old fwd_ins.old fwd_outs.old)
         (table_of bwd_starts.old bwd_bases.old bwd_neighbours.old bwd_weights.old bwd_ins.old bwd_outs.old)) →
@@ -143,9 +146,30 @@ fn build_checked(
         (lengths arcs.old weights.old nodes.old labels.old heap.old)) limit pool) }
 {
     let inside = pool_inside(n, pool);
+    let mut graph = PreparationGraph {
+        arcs,
+        weights,
+        nodes,
+        pool: inside,
+        state: Pool {
+            free: INVALID,
+            fresh: 0,
+        },
+    };
+    let mut search = WitnessSearch {
+        labels,
+        heap,
+        round: Round {
+            base: 0,
+            len: 0,
+            settled: 0,
+            avoid: INVALID,
+        },
+    };
     let ranked = contraction::contraction(
+        &mut graph,
+        &mut search,
         n,
-        inside,
         tails,
         heads,
         link_weights,
@@ -161,11 +185,6 @@ fn build_checked(
         bwd_neighbours,
         bwd_weights,
         bwd_ins,
-        arcs,
-        weights,
-        nodes,
-        labels,
-        heap,
     );
     close(
         n,

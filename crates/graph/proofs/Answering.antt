@@ -1,5 +1,5 @@
 -- The answers of `add_edge_or_shortcut` and `add_or_reduce_edge`.
-use mathlib.Core.Path.{◌≡◌, refl}
+use mathlib.Core.Path.{◌∙◌, ◌≡◌, refl}
 use mathlib.Core.List.{List}
 use Prim.Native.Nat.{ℕ, ◌<◌}
 use lib.ListN.{length}
@@ -8,9 +8,10 @@ use Rattle.std.specs.Prelude.{Result, Ok, Err}
 use Rattle.rules.specs.declared.Refusal.{Refusal}
 use Rattle.rules.specs.declared.Refusal.TheVariants.{Pool as no_place}
 use Rattle.graph.specs.declared.preparation_graph.Pool.{Pool}
+use Rattle.graph.specs.declared.preparation_graph.PreparationGraph.{PreparationGraph}
 use Rattle.lists.specs.Memory.{Memory}
 use Rattle.graph.specs.Stands.{Extends}
-use Rattle.graph.specs.Promises.{Addable, Same, Answers}
+use Rattle.graph.specs.Promises.{Addable, Same, Answers, Kept}
 
 module _ {n pool : ℕ} {m m' : Memory} {w w' places : List ℕ} {h : List Arc} where
   pub answers_came : {state : Pool} → Extends n pool m' w' state h places → Answers n pool m w m' w' places h (Ok state)
@@ -43,3 +44,10 @@ module _ {n pool : ℕ} {m m' : Memory} {w w' : List ℕ} (same : Same m w m' w'
       Answers n pool m' w' m'' w'' (still_addable x).stands.ids h r → Answers n pool m w m'' w'' x.stands.ids f r
   unfolding still_addable
   answers_after x e k = rw (← (still x).1) (answers_moved e k)
+
+pub kept_all : (g : PreparationGraph) → Kept g g
+kept_all g = record { pool = refl; arcs = refl; weights = refl; nodes = refl }
+
+pub kept_on : {g g' g'' : PreparationGraph} → Kept g g' → Kept g' g'' → Kept g g''
+kept_on k l =
+    record { pool = l.pool ∙ k.pool; arcs = l.arcs ∙ k.arcs; weights = l.weights ∙ k.weights; nodes = l.nodes ∙ k.nodes }

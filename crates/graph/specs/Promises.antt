@@ -6,6 +6,7 @@ use Rattle.rules.specs.Graph.{Arc, joins, add_or_reduce}
 use Rattle.rules.specs.declared.Refusal.{Refusal}
 use Rattle.rules.specs.declared.Refusal.TheVariants.{Pool as no_place}
 use Rattle.graph.specs.declared.preparation_graph.Pool.{Pool}
+use Rattle.graph.specs.declared.preparation_graph.PreparationGraph.{PreparationGraph}
 use Rattle.lists.specs.Memory.{Memory, touches}
 use Rattle.graph.specs.Stands.{Stands, Extends}
 
@@ -77,3 +78,15 @@ pub record Spacious (n pool : ℕ) (m : Memory) (w : List ℕ) : Type 0 where
 pub record TookIn (n pool : ℕ) (m : Memory) (w : List ℕ) (g : List Arc) (r : Result Pool Refusal) : Type 0 where
   pub came : (state : Pool) → r ≡ Ok state → Stands n pool m w state g
   pub full : (e : Refusal) → r ≡ Err e → (e ≡ no_place) × (pool < length g)
+
+-- what a step answers, with what it leaves behind
+abbrev pub told : {A : Type 0} → A → Result (Unit {0}) Refusal → Result A Refusal
+told left (Ok u) = Ok left
+told left (Err e) = Err e
+
+-- the slices are as long as they were, and the pool is the same
+pub record Kept (g g' : PreparationGraph) : Type 0 where
+  pub pool : g'.pool ≡ g.pool
+  pub arcs : length g'.arcs.now ≡ length g.arcs.now
+  pub weights : length g'.weights.now ≡ length g.weights.now
+  pub nodes : length g'.nodes.now ≡ length g.nodes.now

@@ -1,5 +1,5 @@
 // The preparation graph: its arcs in a lent pool, each in two lists (crates/lists says how they lie).
-ghost use Rattle.std.specs.Prelude.{◌≡◌, List, [], ◌∷◌, ◌++◌, ℕ, ◌+◌, ◌*◌, ◌-◌, ◌<◌, ◌≤◌, length};
+ghost use Rattle.std.specs.Prelude.{◌≡◌, List, [], ◌∷◌, ◌++◌, ℕ, ◌+◌, ◌*◌, ◌-◌, ◌<◌, ◌≤◌, length, OnErr};
 ghost use Rattle.rules.specs.Numbers.{invalid};
 ghost use Rattle.graph.specs.declared.preparation_graph.Pool.{Pool as State};
 ghost use Rattle.rules.specs.Graph.{Arc, add_or_reduce, disconnect as without_node};
@@ -7,7 +7,7 @@ ghost use Rattle.lists.specs.Memory.{memory, first, arc};
 ghost use Rattle.graph.specs.Stands.{Stands};
 ghost use Rattle.rules.specs.Build.{graph_of};
 ghost use Rattle.input_graph.specs.Given.{links, Between};
-ghost use Rattle.graph.specs.Promises.{Spacious, TookIn, Addable, HoldsSome, Answers, Reduces, Drops, Clears};
+ghost use Rattle.graph.specs.Promises.{Spacious, TookIn, Addable, HoldsSome, Answers, Reduces, Drops, Clears, told, Kept};
 
 use lists::{find_arc, predecessor, put_arc, unlink};
 use rules::{INVALID, Refusal};
@@ -17,6 +17,16 @@ use rules::{INVALID, Refusal};
 pub struct Pool {
     pub free: u32,
     pub fresh: u32,
+}
+
+// The graph in lent slices, of which `pool` places are for arcs.
+#[derive(Drop)]
+pub struct PreparationGraph<'a> {
+    pub arcs: &'a mut [u32],
+    pub weights: &'a mut [u64],
+    pub nodes: &'a mut [u32],
+    pub pool: u32,
+    pub state: Pool,
 }
 
 // A graph of n nodes with no arc.
@@ -30,70 +40,6 @@ pub fn clear(nodes: &mut [u32], n: usize) -> Pool
         free: INVALID,
         fresh: 0,
     }
-}
-
-// Adds an arc, in the first of the freed places, else in one that was never used. Refusal 10 where no place is left.
-pub fn add_edge_or_shortcut(
-    arcs: &mut [u32],
-    weights: &mut [u64],
-    nodes: &mut [u32],
-    pool: u32,
-    state: Pool,
-    tail: u32,
-    head: u32,
-    weight: u64,
-    centre: u32,
-) -> Result<Pool, Refusal>
-    requires { (n : ℕ) × (g : List Arc) × Addable n pool (memory arcs.old nodes.old) weights.old state (arc tail head weight centre) g }
-    ensures { (n : ℕ) (g : List Arc)
-        (x : Addable n pool (memory arcs.old nodes.old) weights.old state (arc tail head weight centre) g) →
-        Answers n pool (memory arcs.old nodes.old) weights.old (memory arcs.new nodes.new)
-        weights.new x.stands.ids (g ++ arc tail head weight centre ∷ []) result }
-{
-    let free = state.free;
-    let fresh = state.fresh;
-    if free != INVALID {
-        let rest = arcs[6 * free as usize + 5];
-        put_arc(arcs, weights, nodes, free, tail, head, weight, centre);
-        return Ok(Pool { free: rest, fresh });
-    }
-    if fresh < pool {
-        put_arc(arcs, weights, nodes, fresh, tail, head, weight, centre);
-        return Ok(Pool {
-            free,
-            fresh: fresh + 1,
-        });
-    }
-    Err(Refusal::Pool)
-}
-
-// Looks for an arc of the same ends. One that is heavier takes the weight and the centre, in its place.
-pub fn reduce_edge(
-    arcs: &mut [u32],
-    weights: &mut [u64],
-    nodes: &[u32],
-    tail: u32,
-    head: u32,
-    weight: u64,
-    centre: u32,
-) -> bool
-    requires { (n pool : ℕ) × (state : State) × (g : List Arc) ×
-        Addable n pool (memory arcs.old nodes.now) weights.old state (arc tail head weight centre) g }
-    ensures { (n pool : ℕ) (state : State) (g : List Arc)
-        (x : Addable n pool (memory arcs.old nodes.now) weights.old state (arc tail head weight centre) g) →
-        Reduces n pool (memory arcs.old nodes.now) weights.old (memory arcs.new nodes.now)
-        weights.new state x.stands.ids (arc tail head weight centre) g result }
-{
-    let place = find_arc(arcs, nodes[4 * tail as usize], head);
-    if place == INVALID {
-        return false;
-    }
-    let at = place as usize;
-    if weight < weights[at] {
-        weights[at] = weight;
-        arcs[6 * at + 2] = centre;
-    }
-    true
 }
 
 // Removes the first arc in the list of `node` from both of its lists, and frees its place, which it returns.
@@ -123,76 +69,126 @@ fn remove_side(arcs: &mut [u32], nodes: &mut [u32], side: usize, node: usize, fr
     freed
 }
 
-// Removes every arc of v.
-pub fn disconnect(arcs: &mut [u32], nodes: &mut [u32], state: Pool, v: u32) -> Pool
-    requires { (n pool : ℕ) × (w : List ℕ) × (g : List Arc) × Stands n pool (memory arcs.old nodes.old) w state g × (v < n) }
-    ensures { (n pool : ℕ) (w : List ℕ) (g : List Arc) → Stands n pool (memory arcs.old nodes.old) w state g →
-        v < n → Stands n pool (memory arcs.new nodes.new) w result (without_node g v) }
-{
-    let node = v as usize;
-    let free = remove_side(arcs, nodes, 0, node, state.free);
-    let free = remove_side(arcs, nodes, 1, node, free);
-    Pool {
-        free,
-        fresh: state.fresh,
+impl<'a> PreparationGraph<'a> {
+    // The graph of the links, each at the end of its lists in turn. Refusal 10 where there are more of them than places.
+    pub fn from_input_graph(
+        &mut self,
+        n: usize,
+        tails: &[u32],
+        heads: &[u32],
+        link_weights: &[u32],
+    ) -> Result<(), Refusal>
+        requires { Spacious n self.old.pool (memory self.old.arcs.now self.old.nodes.now) self.old.weights.now × Between n tails.now heads.now link_weights.now }
+        ensures took_in { TookIn n self.old.pool (memory self.new.arcs.now self.new.nodes.now) self.new.weights.now
+            (graph_of (links tails.now heads.now link_weights.now)) (told self.new.state result) }
+        ensures kept { Kept self.old self.new }
+    {
+        self.state = clear(self.nodes, n);
+        for ((tail, head), weight) in tails.iter().zip(heads).zip(link_weights) {
+            self.add_edge_or_shortcut(*tail, *head, u64::from(*weight), INVALID)?;
+        }
+        Ok(())
     }
-}
 
-// Reduces an arc of the same ends, or adds one where there is none.
-pub fn add_or_reduce_edge(
-    arcs: &mut [u32],
-    weights: &mut [u64],
-    nodes: &mut [u32],
-    pool: u32,
-    state: Pool,
-    tail: u32,
-    head: u32,
-    weight: u64,
-    centre: u32,
-) -> Result<Pool, Refusal>
-    requires { (n : ℕ) × (g : List Arc) × Addable n pool (memory arcs.old nodes.old) weights.old state (arc tail head weight centre) g }
-    ensures { (n : ℕ) (g : List Arc)
-        (x : Addable n pool (memory arcs.old nodes.old) weights.old state (arc tail head weight centre) g) →
-        Answers n pool (memory arcs.old nodes.old) weights.old (memory arcs.new nodes.new)
-        weights.new x.stands.ids (add_or_reduce (arc tail head weight centre) g) result }
-{
-    let reduced = reduce_edge(arcs, weights, nodes, tail, head, weight, centre);
-    if reduced {
-        return Ok(state);
+    // Adds an arc, in the first of the freed places, else in one that was never used. Refusal 10 where no place is left.
+    pub fn add_edge_or_shortcut(
+        &mut self,
+        tail: u32,
+        head: u32,
+        weight: u64,
+        centre: u32,
+    ) -> Result<(), Refusal>
+        requires { (n : ℕ) × (g : List Arc) × Addable n self.old.pool (memory self.old.arcs.now self.old.nodes.now) self.old.weights.now self.old.state (arc tail head weight centre) g }
+        ensures answers { (n : ℕ) (g : List Arc)
+            (x : Addable n self.old.pool (memory self.old.arcs.now self.old.nodes.now) self.old.weights.now self.old.state (arc tail head weight centre) g) →
+            Answers n self.old.pool (memory self.old.arcs.now self.old.nodes.now) self.old.weights.now (memory self.new.arcs.now self.new.nodes.now)
+            self.new.weights.now x.stands.ids (g ++ arc tail head weight centre ∷ []) (told self.new.state result) }
+        ensures refused { OnErr result (self.new.state ≡ self.old.state) }
+        ensures kept { Kept self.old self.new }
+    {
+        let Pool { free, fresh } = self.state;
+        let arcs = &mut *self.arcs;
+        let weights = &mut *self.weights;
+        let nodes = &mut *self.nodes;
+        if free != INVALID {
+            let rest = arcs[6 * free as usize + 5];
+            put_arc(arcs, weights, nodes, free, tail, head, weight, centre);
+            self.state = Pool { free: rest, fresh };
+            return Ok(());
+        }
+        if fresh < self.pool {
+            put_arc(arcs, weights, nodes, fresh, tail, head, weight, centre);
+            self.state = Pool {
+                free,
+                fresh: fresh + 1,
+            };
+            return Ok(());
+        }
+        Err(Refusal::Pool)
     }
-    add_edge_or_shortcut(
-        arcs, weights, nodes, pool, state, tail, head, weight, centre,
-    )
-}
 
-// The graph of the links, each at the end of its lists in turn. Refusal 10 where there are more of them than places.
-pub fn from_input_graph(
-    arcs: &mut [u32],
-    weights: &mut [u64],
-    nodes: &mut [u32],
-    pool: u32,
-    n: usize,
-    tails: &[u32],
-    heads: &[u32],
-    link_weights: &[u32],
-) -> Result<Pool, Refusal>
-    requires { Spacious n pool (memory arcs.old nodes.old) weights.old × Between n tails.now heads.now link_weights.now }
-    ensures { TookIn n pool (memory arcs.new nodes.new) weights.new
-        (graph_of (links tails.now heads.now link_weights.now)) result }
-{
-    let mut state = clear(nodes, n);
-    for ((tail, head), weight) in tails.iter().zip(heads).zip(link_weights) {
-        state = add_edge_or_shortcut(
-            arcs,
-            weights,
-            nodes,
-            pool,
-            state,
-            *tail,
-            *head,
-            u64::from(*weight),
-            INVALID,
-        )?;
+    // Reduces an arc of the same ends, or adds one where there is none.
+    pub fn add_or_reduce_edge(
+        &mut self,
+        tail: u32,
+        head: u32,
+        weight: u64,
+        centre: u32,
+    ) -> Result<(), Refusal>
+        requires { (n : ℕ) × (g : List Arc) × Addable n self.old.pool (memory self.old.arcs.now self.old.nodes.now) self.old.weights.now self.old.state (arc tail head weight centre) g }
+        ensures answers { (n : ℕ) (g : List Arc)
+            (x : Addable n self.old.pool (memory self.old.arcs.now self.old.nodes.now) self.old.weights.now self.old.state (arc tail head weight centre) g) →
+            Answers n self.old.pool (memory self.old.arcs.now self.old.nodes.now) self.old.weights.now (memory self.new.arcs.now self.new.nodes.now)
+            self.new.weights.now x.stands.ids (add_or_reduce (arc tail head weight centre) g) (told self.new.state result) }
+        ensures refused { OnErr result (self.new.state ≡ self.old.state) }
+        ensures kept { Kept self.old self.new }
+    {
+        let reduced = self.reduce_edge(tail, head, weight, centre);
+        if reduced {
+            return Ok(());
+        }
+        self.add_edge_or_shortcut(tail, head, weight, centre)
     }
-    Ok(state)
+
+    // Looks for an arc of the same ends. One that is heavier takes the weight and the centre, in its place.
+    pub fn reduce_edge(&mut self, tail: u32, head: u32, weight: u64, centre: u32) -> bool
+        requires { (n pool : ℕ) × (state : State) × (g : List Arc) ×
+            Addable n pool (memory self.old.arcs.now self.old.nodes.now) self.old.weights.now state (arc tail head weight centre) g }
+        ensures reduces { (n pool : ℕ) (state : State) (g : List Arc)
+            (x : Addable n pool (memory self.old.arcs.now self.old.nodes.now) self.old.weights.now state (arc tail head weight centre) g) →
+            Reduces n pool (memory self.old.arcs.now self.old.nodes.now) self.old.weights.now (memory self.new.arcs.now self.new.nodes.now)
+            self.new.weights.now state x.stands.ids (arc tail head weight centre) g result }
+        ensures state { self.new.state ≡ self.old.state }
+        ensures kept { Kept self.old self.new }
+    {
+        let arcs = &mut *self.arcs;
+        let weights = &mut *self.weights;
+        let nodes = &mut *self.nodes;
+        let place = find_arc(arcs, nodes[4 * tail as usize], head);
+        if place == INVALID {
+            return false;
+        }
+        let at = place as usize;
+        if weight < weights[at] {
+            weights[at] = weight;
+            arcs[6 * at + 2] = centre;
+        }
+        true
+    }
+
+    // Removes every arc of v.
+    pub fn disconnect(&mut self, v: u32)
+        requires { (n pool : ℕ) × (w : List ℕ) × (g : List Arc) × Stands n pool (memory self.old.arcs.now self.old.nodes.now) w self.old.state g × (v < n) }
+        ensures without { (n pool : ℕ) (w : List ℕ) (g : List Arc) → Stands n pool (memory self.old.arcs.now self.old.nodes.now) w self.old.state g →
+            v < n → Stands n pool (memory self.new.arcs.now self.new.nodes.now) w self.new.state (without_node g v) }
+        ensures weights { self.new.weights.now ≡ self.old.weights.now }
+        ensures kept { Kept self.old self.new }
+    {
+        let node = v as usize;
+        let arcs = &mut *self.arcs;
+        let nodes = &mut *self.nodes;
+        let free = remove_side(arcs, nodes, 0, node, self.state.free);
+        let free = remove_side(arcs, nodes, 1, node, free);
+        self.state.free = free;
+    }
 }

@@ -23,18 +23,18 @@ use Rattle.graph.specs.declared.preparation_graph.Pool.{Pool}
 use Rattle.graph.specs.Stands.{Stands, Unmoved}
 use Rattle.graph.proofs.Staying.{unmoved_refl, unmoved_trans}
 use Rattle.graph.proofs.Along.{Along, along_first, along_next, along_stays}
-use Rattle.search.specs.declared.witness_search.WitnessSearch.{WitnessSearch}
+use Rattle.search.specs.declared.witness_search.Round.{Round}
 use Rattle.search.specs.Searching.{Lent, lent}
 use Rattle.search.specs.Promises.{Starts}
 use Rattle.search.proofs.Laws.{ready_stamped, starting, started}
 use Rattle.search.proofs.Walks.{Left, left_along, left_fit, few_ins}
-use Rattle.node_contractor.specs.declared.Work.{Work}
+use Rattle.node_contractor.specs.Work.{Work}
 use Rattle.node_contractor.specs.Promises.{contracting, Leaving, Leaves, Rests, Coming, Passed, Passes, Comes, Contractible, Done, Does}
 use Rattle.node_contractor.proofs.Pairs.{over_standing}
 use Rattle.node_contractor.proofs.OutArcs.{left_list, left_none, left_steps}
 
 -- One in-arc: a search begins, and goes over the out-arcs.
-module _ {arcs weights nodes labels heap labels' heap' : List ℕ} {pool : ℕ} {x : Work} {v tail weight n : ℕ} {g : List Arc} {a : Arc} (q : WitnessSearch)
+module _ {arcs weights nodes labels heap labels' heap' : List ℕ} {pool : ℕ} {x : Work} {v tail weight n : ℕ} {g : List Arc} {a : Arc} (q : Round)
     (p : Coming (lent arcs weights nodes labels heap) pool x v tail weight n g a)
     (starts : Starts labels heap labels' heap' x.search.base tail v q) (long : length heap' ≡ length heap) where
   abbrev begun : Work
@@ -271,3 +271,8 @@ module _ (pool limit v : ℕ) (g : List Arc) where
         loopless = λ b m. k.loopless b (in_disconnected k.graph v b m).0;
         base = k.base;
       }
+
+-- the pool by another name
+pub coming_as : {m : Lent} {pool pool' : ℕ} {x : Work} {v tail weight n : ℕ} {g : List Arc} {a : Arc} → pool' ≡ pool →
+    Coming m pool x v tail weight n g a → Coming m pool' x v tail weight n g a
+coming_as e p = rw e p

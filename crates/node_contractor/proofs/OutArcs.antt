@@ -22,7 +22,7 @@ use Rattle.graph.proofs.Staying.{unmoved_refl, unmoved_trans}
 use Rattle.graph.proofs.Along.{Along, along_first, along_next, along_stays}
 use Rattle.search.specs.Searching.{most_sum, World, Lent, lent, Standing}
 use Rattle.search.proofs.Walks.{Left, left_along, left_fit}
-use Rattle.node_contractor.specs.declared.Work.{Work}
+use Rattle.node_contractor.specs.Work.{Work}
 use Rattle.node_contractor.specs.Promises.{contracting, pair_of, Midst, Came, Steps, Pairing, Pairs, Leaving}
 use Rattle.node_contractor.proofs.Pairs.{pair_is}
 
@@ -185,3 +185,8 @@ module _ {m₀ : Lent} {pool : ℕ} {x₀ : Work} {v tail weight limit n : ℕ} 
         base = y.base;
         avoid = y.avoid;
       }
+
+-- the pool by another name
+pub pairing_as : {m : Lent} {pool pool' : ℕ} {x : Work} {v tail head n : ℕ} {g : List Arc} {s : Search} → pool' ≡ pool →
+    Pairing m pool x v tail head n g s → Pairing m pool' x v tail head n g s
+pairing_as e p = rw e p

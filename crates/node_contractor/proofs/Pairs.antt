@@ -20,14 +20,13 @@ use Rattle.rules.specs.Refused.{number_of}
 use Rattle.lists.specs.Memory.{Memory, memory, arc}
 use Rattle.graph.specs.declared.preparation_graph.Pool.{Pool}
 use Rattle.graph.specs.Stands.{Stands, Extends}
-use Rattle.graph.specs.Promises.{Addable, Answers, Reduces}
+use Rattle.graph.specs.Promises.{Addable, Answers, Reduces, told}
 use Rattle.graph.proofs.Standing.{within_pool}
 use Rattle.graph.proofs.Staying.{added_unmoved, unmoved_refl}
-use Rattle.search.specs.declared.witness_search.Found.{Found as Answer}
 use Rattle.search.specs.Searching.{most_sum, World, world, Lent, lent, Standing, Ready}
-use Rattle.search.specs.Promises.{Answered, Asks}
+use Rattle.search.specs.Promises.{Found as Answer, Answered, Asks}
 use Rattle.search.proofs.Laws.{with_arc, standing_added, ready_added}
-use Rattle.node_contractor.specs.declared.Work.{Work}
+use Rattle.node_contractor.specs.Work.{Work}
 use Rattle.node_contractor.specs.Promises.{contracting, pair_of, Came, Steps, Pairing}
 
 -- The definition, by what the tests said.
@@ -159,6 +158,13 @@ module _ {m : Lent} {pool : ℕ} {x : Work} {v tail head n : ℕ} {g : List Arc}
           let full = answers.full e is in
           steps_refused
           (light_added pool limit v (short sum) g s small ∙ rw (full.0, lt-leb (length (add_or_reduce (short sum) g)) pool full.1, add, in_pool))
+
+    -- either way
+    pub added : (small : sum ≤ max_weight) (r : Result (Unit {0}) Refusal) (next : Pool) →
+        Answers n pool (memory m.arcs m.nodes) m.weights (memory arcs nodes) weights held.ids (add_or_reduce (short sum) g) (told next r) →
+        Steps x (lent arcs weights nodes m.labels m.heap) v held (within_sum pool limit v (short sum) g s) (told (record { state = next; search = x.search }) r)
+    added small (Ok u) next answers = added_came small _ answers next refl
+    added small (Err e) next answers = pool_full small _ answers refl
 
     -- of a sum that no arc may weigh
     module _ (large : max_weight < sum) (r : Bool)

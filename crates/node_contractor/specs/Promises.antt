@@ -12,7 +12,7 @@ use Rattle.lists.specs.Memory.{Memory, arc}
 use Rattle.graph.specs.declared.preparation_graph.Pool.{Pool}
 use Rattle.graph.specs.Stands.{Stands, Unmoved}
 use Rattle.search.specs.Searching.{most_sum, world, Lent, Ready, Resting, Startable, Entering}
-use Rattle.node_contractor.specs.declared.Work.{Work}
+use Rattle.node_contractor.specs.Work.{Work}
 
 abbrev pub contracting : List Arc → Search → Contracting
 contracting g s = record { graph = g; search = s }

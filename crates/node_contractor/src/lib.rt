@@ -4,214 +4,152 @@
 ghost use Rattle.std.specs.Prelude.{List, ℕ, ◌≤◌};
 ghost use Rattle.rules.specs.Graph.{Arc};
 ghost use Rattle.rules.specs.Search.{Search};
+ghost use Rattle.graph.specs.Promises.{told, Kept};
+ghost use Rattle.search.specs.Promises.{Kept as SearchKept};
 ghost use Rattle.search.specs.Searching.{most_sum, lent};
+ghost use Rattle.search.specs.declared.witness_search.Round.{Round};
+ghost use Rattle.node_contractor.specs.Work.{with_round, work, slices};
 ghost use Rattle.node_contractor.specs.Promises.{Pairing, Adds, Pairs, Leaving, Leaves, Coming, Comes, Contractible, Handles, Contracts};
 
-use graph::preparation_graph::{Pool, add_or_reduce_edge, disconnect, reduce_edge};
+use graph::preparation_graph::PreparationGraph;
 use rules::{INVALID, MAX_WEIGHT, Refusal};
-use search::witness_search::{WitnessSearch, find_max_weight, init};
-
-// What goes with the slices: where the pool's places stand, and the search.
-#[derive(Clone, Copy)]
-pub struct Work {
-    pub state: Pool,
-    pub search: WitnessSearch,
-}
+use search::witness_search::WitnessSearch;
 
 // Adds or reduces the arc of a pair that has no witness. A sum above 2^40 is none that an arc may weigh: an arc of the same ends is
 // kept (it weighs less, so that none is reduced), and where there is none that is refusal 12. Refusal 10 where no place is left.
 fn add_shortcut(
-    arcs: &mut [u32],
-    weights: &mut [u64],
-    nodes: &mut [u32],
-    pool: u32,
-    work: Work,
+    graph: &mut PreparationGraph,
     v: u32,
     tail: u32,
     head: u32,
     sum: u64,
-) -> Result<Work, Refusal>
-    requires { (labels heap : List ℕ) × (n : ℕ) × (g : List Arc) × (s : Search) × Pairing (lent arcs.old weights.old nodes.old labels heap) pool work v tail head n g s }
-    ensures { (labels heap : List ℕ) (limit : ℕ) → Adds (lent arcs.old weights.old nodes.old labels heap)
-        (lent arcs.new weights.new nodes.new labels heap) pool work v tail head sum limit result }
+) -> Result<(), Refusal>
+    requires { (labels heap : List ℕ) × (r : Round) × (n : ℕ) × (g : List Arc) × (s : Search) ×
+        Pairing (lent graph.old.arcs.now graph.old.weights.now graph.old.nodes.now labels heap) graph.old.pool (with_round graph.old r) v tail head n g s }
+    ensures adds { (labels heap : List ℕ) (r : Round) (limit : ℕ) →
+        Adds (lent graph.old.arcs.now graph.old.weights.now graph.old.nodes.now labels heap)
+        (lent graph.new.arcs.now graph.new.weights.now graph.new.nodes.now labels heap) graph.old.pool (with_round graph.old r) v tail head sum limit
+        (told (with_round graph.new r) result) }
+    ensures kept { Kept graph.old graph.new }
 {
     let heavy = MAX_WEIGHT < sum;
     if heavy {
-        if reduce_edge(arcs, weights, nodes, tail, head, sum, v) {
-            return Ok(work);
+        if graph.reduce_edge(tail, head, sum, v) {
+            return Ok(());
         }
         return Err(Refusal::Sum);
     }
-    let Work { state, search } = work;
-    let state = add_or_reduce_edge(arcs, weights, nodes, pool, state, tail, head, sum, v)?;
-    Ok(Work { state, search })
+    graph.add_or_reduce_edge(tail, head, sum, v)
 }
 
 // One pair: dropped where both ends are the same, or where there is a witness.
 fn handle_pair(
-    arcs: &mut [u32],
-    weights: &mut [u64],
-    nodes: &mut [u32],
-    labels: &mut [u64],
-    heap: &mut [u64],
-    pool: u32,
-    work: Work,
+    graph: &mut PreparationGraph,
+    search: &mut WitnessSearch,
     v: u32,
     tail: u32,
     head: u32,
     sum: u64,
     limit: u32,
-) -> Result<Work, Refusal>
-    requires { (n : ℕ) × (g : List Arc) × (s : Search) × Pairing (lent arcs.old weights.old nodes.old labels.old heap.old) pool work v tail head n g s × (sum ≤ most_sum) }
-    ensures { Pairs (lent arcs.old weights.old nodes.old labels.old heap.old)
-        (lent arcs.new weights.new nodes.new labels.new heap.new) pool work v tail head sum limit result }
+) -> Result<(), Refusal>
+    requires { (n : ℕ) × (g : List Arc) × (s : Search) × Pairing (slices graph.old search.old) graph.old.pool (work graph.old search.old) v tail head n g s × (sum ≤ most_sum) }
+    ensures pairs { Pairs (slices graph.old search.old) (slices graph.new search.new) graph.old.pool (work graph.old search.old) v tail head sum limit (told (work graph.new search.new) result) }
+    ensures kept { Kept graph.old graph.new }
+    ensures search_kept { SearchKept search.old search.new }
 {
     let same = tail == head;
     if same {
-        return Ok(work);
+        return Ok(());
     }
-    let found = find_max_weight(
-        arcs,
-        weights,
-        nodes,
-        labels,
-        heap,
-        work.search,
-        head,
-        sum,
-        limit,
-    );
-    let after = Work {
-        state: work.state,
-        search: found.search,
-    };
-    let witness = found.weight <= sum;
+    let found = search.find_max_weight(graph, head, sum, limit);
+    let witness = found <= sum;
     if witness {
-        return Ok(after);
+        return Ok(());
     }
-    add_shortcut(arcs, weights, nodes, pool, after, v, tail, head, sum)
+    add_shortcut(graph, v, tail, head, sum)
 }
 
 // The pairs of one in-arc, from `tail` and of weight `weight`, with each out-arc of v. Arcs come meanwhile, none of them to a list
 // of v.
 fn handle_out_arcs(
-    arcs: &mut [u32],
-    weights: &mut [u64],
-    nodes: &mut [u32],
-    labels: &mut [u64],
-    heap: &mut [u64],
-    pool: u32,
-    work: Work,
+    graph: &mut PreparationGraph,
+    search: &mut WitnessSearch,
     v: u32,
     tail: u32,
     weight: u64,
     limit: u32,
-) -> Result<Work, Refusal>
-    requires { (n : ℕ) × (g : List Arc) × (a : Arc) × (s : Search) × Leaving (lent arcs.old weights.old nodes.old labels.old heap.old) pool work v tail weight n g a s }
-    ensures { Leaves (lent arcs.old weights.old nodes.old labels.old heap.old)
-        (lent arcs.new weights.new nodes.new labels.new heap.new) pool work v tail weight limit result }
+) -> Result<(), Refusal>
+    requires { (n : ℕ) × (g : List Arc) × (a : Arc) × (s : Search) × Leaving (slices graph.old search.old) graph.old.pool (work graph.old search.old) v tail weight n g a s }
+    ensures leaves { Leaves (slices graph.old search.old) (slices graph.new search.new) graph.old.pool (work graph.old search.old) v tail weight limit (told (work graph.new search.new) result) }
+    ensures kept { Kept graph.old graph.new }
+    ensures search_kept { SearchKept search.old search.new }
 {
-    let mut work = work;
-    let mut place = nodes[4 * v as usize];
+    let mut place = graph.nodes[4 * v as usize];
     while place != INVALID {
         let i = place as usize;
-        place = arcs[6 * i + 3];
-        let head = arcs[6 * i + 1];
-        let sum = weight + weights[i];
-        work = handle_pair(
-            arcs, weights, nodes, labels, heap, pool, work, v, tail, head, sum, limit,
-        )?;
+        place = graph.arcs[6 * i + 3];
+        let head = graph.arcs[6 * i + 1];
+        let sum = weight + graph.weights[i];
+        handle_pair(graph, search, v, tail, head, sum, limit)?;
     }
-    Ok(work)
+    Ok(())
 }
 
 // One in-arc, with a search of its own.
 fn handle_in_arc(
-    arcs: &mut [u32],
-    weights: &mut [u64],
-    nodes: &mut [u32],
-    labels: &mut [u64],
-    heap: &mut [u64],
-    pool: u32,
-    work: Work,
+    graph: &mut PreparationGraph,
+    search: &mut WitnessSearch,
     v: u32,
     tail: u32,
     weight: u64,
     limit: u32,
-) -> Result<Work, Refusal>
-    requires { (n : ℕ) × (g : List Arc) × (a : Arc) × Coming (lent arcs.old weights.old nodes.old labels.old heap.old) pool work v tail weight n g a }
-    ensures { Comes (lent arcs.old weights.old nodes.old labels.old heap.old)
-        (lent arcs.new weights.new nodes.new labels.new heap.new) pool work v tail weight limit result }
+) -> Result<(), Refusal>
+    requires { (n : ℕ) × (g : List Arc) × (a : Arc) × Coming (slices graph.old search.old) graph.old.pool (work graph.old search.old) v tail weight n g a }
+    ensures comes { Comes (slices graph.old search.old) (slices graph.new search.new) graph.old.pool (work graph.old search.old) v tail weight limit (told (work graph.new search.new) result) }
+    ensures kept { Kept graph.old graph.new }
+    ensures search_kept { SearchKept search.old search.new }
 {
-    let search = init(labels, heap, work.search, tail, v);
-    handle_out_arcs(
-        arcs,
-        weights,
-        nodes,
-        labels,
-        heap,
-        pool,
-        Work {
-            state: work.state,
-            search,
-        },
-        v,
-        tail,
-        weight,
-        limit,
-    )
+    search.init(tail, v);
+    handle_out_arcs(graph, search, v, tail, weight, limit)
 }
 
 // Each in-arc of v with each of its out-arcs, adding shortcuts. The relevance of a node is a count of the same pairs, and wants a
 // second function in this place, which adds none.
 fn handle_shortcuts(
-    arcs: &mut [u32],
-    weights: &mut [u64],
-    nodes: &mut [u32],
-    labels: &mut [u64],
-    heap: &mut [u64],
-    pool: u32,
-    work: Work,
+    graph: &mut PreparationGraph,
+    search: &mut WitnessSearch,
     v: u32,
     limit: u32,
-) -> Result<Work, Refusal>
-    requires { (n : ℕ) × (g : List Arc) × Contractible (lent arcs.old weights.old nodes.old labels.old heap.old) pool work v n g }
-    ensures { Handles (lent arcs.old weights.old nodes.old labels.old heap.old)
-        (lent arcs.new weights.new nodes.new labels.new heap.new) pool work v limit result }
+) -> Result<(), Refusal>
+    requires { (n : ℕ) × (g : List Arc) × Contractible (slices graph.old search.old) graph.old.pool (work graph.old search.old) v n g }
+    ensures handles { Handles (slices graph.old search.old) (slices graph.new search.new) graph.old.pool (work graph.old search.old) v limit (told (work graph.new search.new) result) }
+    ensures kept { Kept graph.old graph.new }
+    ensures search_kept { SearchKept search.old search.new }
 {
-    let mut work = work;
-    let mut place = nodes[4 * v as usize + 2];
+    let mut place = graph.nodes[4 * v as usize + 2];
     while place != INVALID {
         let i = place as usize;
-        place = arcs[6 * i + 4];
-        let tail = arcs[6 * i];
-        let weight = weights[i];
-        work = handle_in_arc(
-            arcs, weights, nodes, labels, heap, pool, work, v, tail, weight, limit,
-        )?;
+        place = graph.arcs[6 * i + 4];
+        let tail = graph.arcs[6 * i];
+        let weight = graph.weights[i];
+        handle_in_arc(graph, search, v, tail, weight, limit)?;
     }
-    Ok(work)
+    Ok(())
 }
 
 // Adds the shortcuts of v and removes its arcs.
 pub fn contract_node(
-    arcs: &mut [u32],
-    weights: &mut [u64],
-    nodes: &mut [u32],
-    labels: &mut [u64],
-    heap: &mut [u64],
-    pool: u32,
-    work: Work,
+    graph: &mut PreparationGraph,
+    search: &mut WitnessSearch,
     v: u32,
     limit: u32,
-) -> Result<Work, Refusal>
-    requires { (n : ℕ) × (g : List Arc) × Contractible (lent arcs.old weights.old nodes.old labels.old heap.old) pool work v n g }
-    ensures { Contracts (lent arcs.old weights.old nodes.old labels.old heap.old)
-        (lent arcs.new weights.new nodes.new labels.new heap.new) pool work v limit result }
+) -> Result<(), Refusal>
+    requires { (n : ℕ) × (g : List Arc) × Contractible (slices graph.old search.old) graph.old.pool (work graph.old search.old) v n g }
+    ensures contracts { Contracts (slices graph.old search.old) (slices graph.new search.new) graph.old.pool (work graph.old search.old) v limit (told (work graph.new search.new) result) }
+    ensures kept { Kept graph.old graph.new }
+    ensures search_kept { SearchKept search.old search.new }
 {
-    let Work { state, search } = handle_shortcuts(
-        arcs, weights, nodes, labels, heap, pool, work, v, limit,
-    )?;
-    let state = disconnect(arcs, nodes, state, v);
-    Ok(Work { state, search })
+    handle_shortcuts(graph, search, v, limit)?;
+    graph.disconnect(v);
+    Ok(())
 }

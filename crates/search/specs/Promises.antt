@@ -8,8 +8,8 @@ use Rattle.rules.specs.Search.{Search, init, offer, relax, settle, run, search_f
 use Rattle.heap.specs.Items.{pair, item, items}
 use Rattle.heap.specs.Shape.{Ordered}
 use Rattle.lists.specs.Memory.{memory, arc_at, Chain}
+use Rattle.search.specs.declared.witness_search.Round.{Round}
 use Rattle.search.specs.declared.witness_search.WitnessSearch.{WitnessSearch}
-use Rattle.search.specs.declared.witness_search.Found.{Found}
 use Rattle.search.specs.declared.witness_search.Progress.{Progress}
 use Rattle.search.specs.Labels.{Stamped, Reached}
 use Rattle.search.specs.Turns.{cross, take, turn}
@@ -124,18 +124,26 @@ abbrev pub Runs : (m : Lent) (labels heap : List ℕ) (base avoid len count targ
 Runs m labels heap base avoid len count target sum limit r =
     Each (Asked m base len count target sum) (Ran (with_slices m labels heap) base avoid target sum limit r)
 
+-- the answer, and the search for the next target
+pub record Found : Type 0 where
+  pub weight : ℕ
+  pub search : Round
+
+abbrev pub found : ℕ → Round → Found
+found weight search = record { weight = weight; search = search }
+
 -- the answer, and the search as it was left for the next target
-pub record Answered (m : Lent) (search : WitnessSearch) (target sum limit : ℕ) (r : Found) (w : World) (s : Search) : Type 0 where
+pub record Answered (m : Lent) (search : Round) (target sum limit : ℕ) (r : Found) (w : World) (s : Search) : Type 0 where
   pub weight : r.weight ≡ (find_max_weight w.graph search.avoid limit target sum s).weight
   pub ready : Ready w m r.search.base r.search.len r.search.settled (find_max_weight w.graph search.avoid limit target sum s).search
   pub base : r.search.base ≡ search.base
   pub avoid : r.search.avoid ≡ search.avoid
 
 -- `search` is asked
-abbrev pub Asks : (m : Lent) → WitnessSearch → (target sum : ℕ) → World → Search → Type 0
+abbrev pub Asks : (m : Lent) → Round → (target sum : ℕ) → World → Search → Type 0
 Asks m search = Asked m search.base search.len search.settled
 
-abbrev pub Finds : (m : Lent) (labels heap : List ℕ) → WitnessSearch → (target sum limit : ℕ) → Found → Type 0
+abbrev pub Finds : (m : Lent) (labels heap : List ℕ) → Round → (target sum limit : ℕ) → Found → Type 0
 Finds m labels heap search target sum limit r =
     Each (Asks m search target sum) (Answered (with_slices m labels heap) search target sum limit r)
 
@@ -146,12 +154,17 @@ pub record Starting (labels heap : List ℕ) (base start n : ℕ) : Type 0 where
   pub heap_room : 2 ≤ length heap
   pub fits : base + 3 < 2 ^ 64
 
-pub record Started (labels heap : List ℕ) (base start avoid : ℕ) (r : WitnessSearch) (n : ℕ) : Type 0 where
+pub record Started (labels heap : List ℕ) (base start avoid : ℕ) (r : Round) (n : ℕ) : Type 0 where
   pub searching : Searching n labels heap r.base r.len (init start)
   pub counted : r.settled ≡ 0
   pub next : r.base ≡ base + 2
   pub avoids : r.avoid ≡ avoid
 
-abbrev pub Starts : (labels heap labels' heap' : List ℕ) (base start avoid : ℕ) → WitnessSearch → Type 0
+abbrev pub Starts : (labels heap labels' heap' : List ℕ) (base start avoid : ℕ) → Round → Type 0
 Starts labels heap labels' heap' base start avoid r =
     (n : ℕ) → Starting labels heap base start n → Started labels' heap' base start avoid r n
+
+-- the slices are as long as they were
+pub record Kept (s s' : WitnessSearch) : Type 0 where
+  pub labels : length s'.labels.now ≡ length s.labels.now
+  pub heap : length s'.heap.now ≡ length s.heap.now

@@ -6,24 +6,26 @@
 ghost use Rattle.std.specs.Prelude.{◌||◌, ◌≡◌, ℕ, ◌+◌, ◌*◌, ◌≤◌, eqb, leb, length};
 ghost use Rattle.search.specs.Labels.{label_at, settled_at, put_label, Stamped};
 ghost use Rattle.search.specs.Searching.{lent};
-ghost use Rattle.search.specs.Promises.{Some, Offering, Offered, Crossed, Relaxing, Relaxes, Settling, Settles, Asked, Taking, Takes, Turns, Runs, Asks, Finds, Starting, Starts};
+ghost use Rattle.search.specs.Promises.{Some, Offering, Offered, Crossed, Relaxing, Relaxes, Settling, Settles, Asked, Taking, Takes, Turns, Runs, Asks, Finds, Starting, Starts, found, Kept};
 
+use graph::preparation_graph::PreparationGraph;
 use rules::{INVALID, WEIGHT_MAX};
+
+// The search in lent labels and a lent heap.
+#[derive(Drop)]
+pub struct WitnessSearch<'a> {
+    pub labels: &'a mut [u64],
+    pub heap: &'a mut [u64],
+    pub round: Round,
+}
 
 // What lasts over all targets of one start, which avoids one node: `len` entries are in the heap, `settled` nodes were settled.
 #[derive(Clone, Copy)]
-pub struct WitnessSearch {
+pub struct Round {
     pub base: u64,
     pub len: usize,
     pub settled: u64,
     pub avoid: u32,
-}
-
-// The answer, and the search for the next target.
-#[derive(Clone, Copy)]
-pub struct Found {
-    pub weight: u64,
-    pub search: WitnessSearch,
 }
 
 // Where one step leaves a search, and whether it goes on. Its numbers are wanted either way: ControlFlow would hold them twice.
@@ -328,77 +330,6 @@ fn run(
     }
 }
 
-// A bound on the least weight from the start to the target: the target's label. It answers at once where the target is settled
-// or labelled within the limit.
-pub fn find_max_weight(
-    arcs: &[u32],
-    weights: &[u64],
-    nodes: &[u32],
-    labels: &mut [u64],
-    heap: &mut [u64],
-    search: WitnessSearch,
-    target: u32,
-    weight_limit: u64,
-    settled_nodes_limit: u32,
-) -> Found
-    requires { Some (Asks (lent arcs.now weights.now nodes.now labels.old heap.old) search target weight_limit) }
-    ensures { Finds (lent arcs.now weights.now nodes.now labels.old heap.old) labels.new heap.new search target weight_limit settled_nodes_limit result }
-{
-    let v = target as usize;
-    let weight = get_current_weight(labels, search.base, v);
-    if weight <= weight_limit {
-        return Found { weight, search };
-    }
-    if is_settled(labels, search.base, v) {
-        return Found { weight, search };
-    }
-    let end = run(
-        arcs,
-        weights,
-        nodes,
-        labels,
-        heap,
-        search.base,
-        search.avoid,
-        search.len,
-        search.settled,
-        v,
-        weight_limit,
-        settled_nodes_limit,
-    );
-    Found {
-        weight: get_current_weight(labels, search.base, v),
-        search: WitnessSearch {
-            base: search.base,
-            len: end.len,
-            settled: end.settled,
-            avoid: search.avoid,
-        },
-    }
-}
-
-// The search of a new start and avoided node: its base is above every stamp.
-pub fn init(
-    labels: &mut [u64],
-    heap: &mut [u64],
-    search: WitnessSearch,
-    start: u32,
-    avoid: u32,
-) -> WitnessSearch
-    requires { (n : ℕ) × Starting labels.old heap.old search.base start n }
-    ensures { Starts labels.old heap.old labels.new heap.new search.base start avoid result }
-{
-    let base = search.base + 2;
-    update_node(labels, base, start as usize, 0);
-    heap::push(heap, 0, 0, start as u64);
-    WitnessSearch {
-        base,
-        len: 1,
-        settled: 0,
-        avoid,
-    }
-}
-
 fn clear_labels(labels: &mut [u64], num_nodes: usize)
     requires { 2 * num_nodes ≤ length labels.old }
     ensures { Stamped num_nodes labels.new 0 }
@@ -408,16 +339,90 @@ fn clear_labels(labels: &mut [u64], num_nodes: usize)
     }
 }
 
-// Before the first search labels may hold anything: their stamps are cleared, once.
-pub fn new(labels: &mut [u64], num_nodes: usize) -> WitnessSearch
-    requires { 2 * num_nodes ≤ length labels.old }
-    ensures { (result.base ≡ 0) × Stamped num_nodes labels.new 0 }
-{
-    clear_labels(labels, num_nodes);
-    WitnessSearch {
-        base: 0,
-        len: 0,
-        settled: 0,
-        avoid: INVALID,
+impl<'a> WitnessSearch<'a> {
+    // Before the first search labels may hold anything: their stamps are cleared, once.
+    pub fn clear(&mut self, num_nodes: usize)
+        requires { 2 * num_nodes ≤ length self.old.labels.now }
+        ensures cleared { (self.new.round.base ≡ 0) × Stamped num_nodes self.new.labels.now 0 }
+        ensures heap { self.new.heap.now ≡ self.old.heap.now }
+        ensures kept { Kept self.old self.new }
+    {
+        clear_labels(self.labels, num_nodes);
+        self.round = Round {
+            base: 0,
+            len: 0,
+            settled: 0,
+            avoid: INVALID,
+        };
+    }
+
+    // The search of a new start and avoided node: its base is above every stamp.
+    pub fn init(&mut self, start: u32, avoid: u32)
+        requires { (n : ℕ) × Starting self.old.labels.now self.old.heap.now self.old.round.base start n }
+        ensures starts { Starts self.old.labels.now self.old.heap.now self.new.labels.now self.new.heap.now self.old.round.base start avoid self.new.round }
+        ensures kept { Kept self.old self.new }
+    {
+        let base = self.round.base + 2;
+        update_node(self.labels, base, start as usize, 0);
+        heap::push(self.heap, 0, 0, start as u64);
+        self.round = Round {
+            base,
+            len: 1,
+            settled: 0,
+            avoid,
+        };
+    }
+
+    // A bound on the least weight from the start to the target: the target's label. It answers at once where the target is settled
+    // or labelled within the limit.
+    pub fn find_max_weight(
+        &mut self,
+        graph: &PreparationGraph,
+        target: u32,
+        weight_limit: u64,
+        settled_nodes_limit: u32,
+    ) -> u64
+        requires { Some (Asks (lent graph.now.arcs.now graph.now.weights.now graph.now.nodes.now self.old.labels.now self.old.heap.now) self.old.round target weight_limit) }
+        ensures finds { Finds (lent graph.now.arcs.now graph.now.weights.now graph.now.nodes.now self.old.labels.now self.old.heap.now) self.new.labels.now self.new.heap.now self.old.round target weight_limit settled_nodes_limit
+            (found result self.new.round) }
+        ensures kept { Kept self.old self.new }
+    {
+        let v = target as usize;
+        let Round {
+            base,
+            len,
+            settled,
+            avoid,
+        } = self.round;
+        let labels = &mut *self.labels;
+        let heap = &mut *self.heap;
+        let weight = get_current_weight(labels, base, v);
+        if weight <= weight_limit {
+            return weight;
+        }
+        if is_settled(labels, base, v) {
+            return weight;
+        }
+        let end = run(
+            graph.arcs,
+            graph.weights,
+            graph.nodes,
+            labels,
+            heap,
+            base,
+            avoid,
+            len,
+            settled,
+            v,
+            weight_limit,
+            settled_nodes_limit,
+        );
+        self.round = Round {
+            base,
+            len: end.len,
+            settled: end.settled,
+            avoid,
+        };
+        get_current_weight(labels, base, v)
     }
 }

@@ -1,14 +1,17 @@
 -- The lists are counted and laid, and the node is contracted.
+use mathlib.Core.Path.{ap}
 use native.Mathlib.Omega.{arith}
+use Rattle.graph.specs.Promises.{told}
+use Rattle.contraction.specs.Ranks.{staged}
 use Rattle.std.proofs.lemmas.Result.{err_from_is_err_and}
 use Rattle.contraction.proofs.Ranking.{nodes_room, walk_out, walk_in, forward_within, backward_within, full_forward, full_backward, layable_forward, layable_backward, contractible, step_came, step_stopped}
 use Rattle.contraction.proofs.rank_step.Goals as goal
 
-pub bounds-nodes-v : goal.bounds-nodes-v
-bounds-nodes-v c = omega (arith, nodes_room c.requires.3)
+pub bounds-graph-v : goal.bounds-graph-v
+bounds-graph-v c = omega (arith, nodes_room c.requires.3)
 
-pub bounds-nodes-v-2 : goal.bounds-nodes-v-2
-bounds-nodes-v-2 c = omega (arith, nodes_room c.requires.3)
+pub bounds-graph-v-2 : goal.bounds-graph-v-2
+bounds-graph-v-2 c = omega (arith, nodes_room c.requires.3)
 
 pub list_length-more_fwd-requires : goal.list_length-more_fwd-requires
 list_length-more_fwd-requires c = (omega arith, (_, walk_out c.requires.3))
@@ -19,14 +22,14 @@ list_length-more_bwd-requires c = (omega arith, (_, walk_in c.requires.3))
 pub overflow_sub-fwd_bases : goal.overflow_sub-fwd_bases
 overflow_sub-fwd_bases c = forward_within c.requires.3
 
-pub returns-then-fwd_bases-fwd : goal.returns-then-fwd_bases-fwd
-returns-then-fwd_bases-fwd c = λ g b vs p. full_forward p (c.list_length-more_fwd.ensures _ (walk_out p)) (c.list_length-more_bwd.ensures _ (walk_in p)) c.if-fwd_bases-fwd.true
+pub returns-then-fwd_bases-fwd-clause-steps : goal.returns-then-fwd_bases-fwd-clause-steps
+returns-then-fwd_bases-fwd-clause-steps c = λ g b vs p. full_forward p (c.list_length-more_fwd.ensures _ (walk_out p)) (c.list_length-more_bwd.ensures _ (walk_in p)) c.if-fwd_bases-fwd.true
 
 pub overflow_sub-bwd_bases : goal.overflow_sub-bwd_bases
 overflow_sub-bwd_bases c = backward_within c.requires.3
 
-pub returns-then-bwd_bases-bwd : goal.returns-then-bwd_bases-bwd
-returns-then-bwd_bases-bwd c = λ g b vs p. full_backward p (c.list_length-more_fwd.ensures _ (walk_out p)) (c.list_length-more_bwd.ensures _ (walk_in p)) c.if-fwd_bases-fwd.false c.if-bwd_bases-bwd.true
+pub returns-then-bwd_bases-bwd-clause-steps : goal.returns-then-bwd_bases-bwd-clause-steps
+returns-then-bwd_bases-bwd-clause-steps c = λ g b vs p. full_backward p (c.list_length-more_fwd.ensures _ (walk_out p)) (c.list_length-more_bwd.ensures _ (walk_in p)) c.if-fwd_bases-fwd.false c.if-bwd_bases-bwd.true
 
 pub lay_rank-requires : goal.lay_rank-requires
 lay_rank-requires c = let p = c.requires.3 in (_, _, layable_forward p (c.list_length-more_fwd.ensures _ (walk_out p)) (c.list_length-more_bwd.ensures _ (walk_in p)) c.if-fwd_bases-fwd.false c.if-bwd_bases-bwd.false)
@@ -37,12 +40,15 @@ lay_rank-requires-2 c = let p = c.requires.3 in (_, _, layable_backward p (c.lis
 pub contract_node-requires : goal.contract_node-requires
 contract_node-requires c = let p = c.requires.3 in (_, _, contractible p (c.list_length-more_fwd.ensures _ (walk_out p)) (c.list_length-more_bwd.ensures _ (walk_in p)) c.if-fwd_bases-fwd.false c.if-bwd_bases-bwd.false)
 
-pub returns : goal.returns
-returns c = λ g b vs p. step_came p (c.list_length-more_fwd.ensures _ (walk_out p)) (c.list_length-more_bwd.ensures _ (walk_in p)) c.if-fwd_bases-fwd.false c.if-bwd_bases-bwd.false c.lay_rank.ensures c.lay_rank-2.ensures c.contract_node.ensures _ c.in_ok-work.was
-
-pub returns-in_err-work : goal.returns-in_err-work
-returns-in_err-work c =
+pub returns-clause-steps : goal.returns-clause-steps
+returns-clause-steps c =
     λ g b vs p.
-    let told = err_from_is_err_and c.from_residual.result c.from_residual.ensures.1 in
-    rw (told.1, told.2)
-    (step_stopped p (c.list_length-more_fwd.ensures _ (walk_out p)) (c.list_length-more_bwd.ensures _ (walk_in p)) c.if-fwd_bases-fwd.false c.if-bwd_bases-bwd.false c.contract_node.ensures _ c.in_err-work.was)
+    step_came p (c.list_length-more_fwd.ensures _ (walk_out p)) (c.list_length-more_bwd.ensures _ (walk_in p)) c.if-fwd_bases-fwd.false c.if-bwd_bases-bwd.false c.lay_rank.ensures c.lay_rank-2.ensures
+    c.contract_node.ensures.contracts _ (ap (told _) c.in_ok-contract_node.was)
+
+pub returns-in_err-contract_node-clause-steps : goal.returns-in_err-contract_node-clause-steps
+returns-in_err-contract_node-clause-steps c =
+    λ g b vs p.
+    let is = err_from_is_err_and c.from_residual.result c.from_residual.ensures.1 in
+    rw (is.1, is.2, staged)
+    (step_stopped p (c.list_length-more_fwd.ensures _ (walk_out p)) (c.list_length-more_bwd.ensures _ (walk_in p)) c.if-fwd_bases-fwd.false c.if-bwd_bases-bwd.false c.contract_node.ensures.contracts _ (ap (told _) c.in_err-contract_node.was))

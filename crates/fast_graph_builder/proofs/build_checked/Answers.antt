@@ -20,12 +20,12 @@ close-requires c =
     let s = scratch (goal.at.close-requires c).Start in
     let ranked = c.contraction-ranked in
     let here = c.pool_inside-inside.ensures in
-    (_, _, _, closing_columns s c.requires here (ranked.ensures _ _ (accepting s c.requires here)) ranked.auto.fwd_starts ranked.auto.fwd_bases ranked.auto.fwd_neighbours ranked.auto.fwd_weights ranked.auto.fwd_ins ranked.auto.bwd_starts ranked.auto.bwd_bases ranked.auto.bwd_neighbours ranked.auto.bwd_weights ranked.auto.bwd_ins)
+    (_, _, _, _, closing_columns s c.requires here (ranked.ensures.comes _ _ (accepting s c.requires here)) ranked.auto.fwd_starts ranked.auto.fwd_bases ranked.auto.fwd_neighbours ranked.auto.fwd_weights ranked.auto.fwd_ins ranked.auto.bwd_starts ranked.auto.bwd_bases ranked.auto.bwd_neighbours ranked.auto.bwd_weights ranked.auto.bwd_ins)
 
 pub returns : goal.returns
 returns c =
     let s = scratch (goal.at.returns c).Start in
     let ranked = c.contraction-ranked in
     let here = c.pool_inside-inside.ensures in
-    c.close.ensures _ _ _ (closing_columns s c.requires here (ranked.ensures _ _ (accepting s c.requires here)) ranked.auto.fwd_starts ranked.auto.fwd_bases ranked.auto.fwd_neighbours ranked.auto.fwd_weights ranked.auto.fwd_ins ranked.auto.bwd_starts ranked.auto.bwd_bases ranked.auto.bwd_neighbours ranked.auto.bwd_weights ranked.auto.bwd_ins)
+    c.close.ensures _ _ _ _ (closing_columns s c.requires here (ranked.ensures.comes _ _ (accepting s c.requires here)) ranked.auto.fwd_starts ranked.auto.fwd_bases ranked.auto.fwd_neighbours ranked.auto.fwd_weights ranked.auto.fwd_ins ranked.auto.bwd_starts ranked.auto.bwd_bases ranked.auto.bwd_neighbours ranked.auto.bwd_weights ranked.auto.bwd_ins)
     ∙ as_built s c.requires here

@@ -3,13 +3,13 @@ use mathlib.Core.Path.{refl}
 use native.Mathlib.Omega.{arith}
 use Rattle.heap.proofs.Laws.{empty_ordered}
 use Rattle.search.proofs.Offers.{started}
-use Rattle.search.proofs.witness_search.init.Goals as goal
+use Rattle.search.proofs.witness_search.WitnessSearch.init.Goals as goal
 
 pub push-requires : goal.push-requires
 push-requires c = (omega (arith, c.requires.1.heap_room), empty_ordered _)
 
-pub returns : goal.returns
-returns c =
+pub returns-clause-starts : goal.returns-clause-starts
+returns-clause-starts c =
     λ n x.
     record {
       searching =
