@@ -7,7 +7,7 @@ use lib.ListN.{length, take, drop, length-take}
 use lib.Seq.{take_all, take-append_seam}
 use Rattle.rules.specs.Numbers.{no_weight}
 use Rattle.rules.specs.Lists.{over}
-use Rattle.rules.specs.Columns.{Hierarchy, Side, forward, backward, table}
+use Rattle.rules.specs.Columns.{Hierarchy, Side}
 use Rattle.rules.specs.Refusals.{QueryCall, query_refusal}
 use Rattle.rules.specs.Query.{Answered, no_route, handed_back, query}
 use Rattle.rules.proofs.Prefixes.{written_nowhere, written_over}

@@ -12,32 +12,8 @@ use Rattle.rules.specs.Columns.{Links}
 use Rattle.rules.specs.Refusals.{Row, row, first_met, graph_rows, graph_refusal}
 use Rattle.rules.proofs.Cases.{on_test}
 use Rattle.rules.proofs.Rows.{not_met}
-use Rattle.rules.specs.declared.Refusal.{Refusal}
-use Rattle.rules.specs.declared.Refusal.TheVariants.{Nodes, Links as too_many, LinkEnd, Loop, LinkWeight, Unsorted, OrderLength, Order, Lent, Pool, Entries, Sum, Tables, Ends, EndNode, Offset, Room, Walk}
-use Rattle.rules.specs.Refused.{number_of}
 use Rattle.permutation.specs.Once.{each_once}
 use Rattle.refusals.specs.Measures.{order_test}
-
--- no refusal has the number 0
-pub named : (r : Refusal) → number_of r ≡ 0 → ⊥
-named Nodes e = absurd (omega (arith, e))
-named too_many e = absurd (omega (arith, e))
-named LinkEnd e = absurd (omega (arith, e))
-named Loop e = absurd (omega (arith, e))
-named LinkWeight e = absurd (omega (arith, e))
-named Unsorted e = absurd (omega (arith, e))
-named OrderLength e = absurd (omega (arith, e))
-named Order e = absurd (omega (arith, e))
-named Lent e = absurd (omega (arith, e))
-named Pool e = absurd (omega (arith, e))
-named Entries e = absurd (omega (arith, e))
-named Sum e = absurd (omega (arith, e))
-named Tables e = absurd (omega (arith, e))
-named Ends e = absurd (omega (arith, e))
-named EndNode e = absurd (omega (arith, e))
-named Offset e = absurd (omega (arith, e))
-named Room e = absurd (omega (arith, e))
-named Walk e = absurd (omega (arith, e))
 
 -- Rows one after the other.
 pub later : (n : ℕ) (b : Bool) (rows rest : List Row) → first_met (row (suc n) b ∷ rows) ≡ 0 → (first_met rows ≡ 0 → first_met (rows ++ rest) ≡ first_met rest) →

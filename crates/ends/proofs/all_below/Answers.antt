@@ -1,5 +1,4 @@
 -- The invariant: what is left of the column decides as all of it.
-use mathlib.Core.Path.{refl}
 use native.Mathlib.Omega.{arith}
 use borrow.Author.Tests.{lt-ltb, le-ltb}
 use Rattle.ends.proofs.Steps.{fails_here, holds_here, all_hold}

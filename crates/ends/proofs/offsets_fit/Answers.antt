@@ -1,5 +1,5 @@
 -- The invariant: what is left of the column decides as all of it.
-use mathlib.Core.Path.{refl, sym, ◌∙◌}
+use mathlib.Core.Path.{sym, ◌∙◌}
 use native.Mathlib.Omega.{arith}
 use Rattle.ends.proofs.Steps.{fails_here, holds_here, all_hold}
 use Rattle.ends.proofs.offsets_fit.Goals as goal

@@ -10,7 +10,7 @@ use Rattle.input_graph.specs.Given.{links}
 use Rattle.marks.specs.Tables.{table_of, hierarchy}
 use Rattle.contraction.specs.Ranks.{given, call}
 use Rattle.refusals.specs.Measures.{Refuses, lent_short_by, uneven_by}
-use Rattle.refusals.proofs.Tests.{named}
+use Rattle.rules.proofs.Refused.{some_number}
 use Rattle.fast_graph_builder.specs.Promises.{lengths}
 use Rattle.fast_graph_builder.proofs.Passing.{nodes_few, turned_away, too_short, let_in, let_in_built, by_lengths}
 use Rattle.fast_graph_builder.proofs.build_with_order.Goals as goal
@@ -47,7 +47,7 @@ passed s none = let_in (asked s) (sym none)
 pub returns-in_err-refusal : goal.returns-in_err-refusal
 returns-in_err-refusal c =
     let told = err_from_is_err_and c.from_residual.result c.from_residual.ensures.1 in
-    rw (told.1, told.2) (turned_away _ _ c.in_err-refusal.ensures (named _))
+    rw (told.1, told.2) (turned_away _ _ c.in_err-refusal.ensures (some_number _))
 
 pub lent_short-requires : goal.lent_short-requires
 lent_short-requires c = nodes_few _ _ _ (sym c.in_ok-refusal.ensures)

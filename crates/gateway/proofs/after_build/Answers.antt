@@ -1,6 +1,6 @@
 -- The counts, and the records after the build; or a refusal's line and no more.
 use mathlib.Core.Path.{◌≡◌, sym, ap, ◌∙◌}
-use Rattle.rules.specs.Refused.{number_of, code}
+use Rattle.rules.specs.Refused.{code}
 use Rattle.rules.proofs.Refused.{some_number}
 use Rattle.gateway.proofs.Closing.{stop_fits, stop_wrote, counts_fit, onward_fits, go_wrote}
 use Rattle.gateway.proofs.after_build.Goals as goal

@@ -1,6 +1,6 @@
 -- The search of a query: from entered ends and the first step, through the rounds.
 use mathlib.Core.Path.{sym, ◌∙◌}
-use Rattle.std.proofs.Common.{rules, arith, ◌≤◌, get_or}
+use Rattle.std.proofs.Common.{rules, ◌≤◌, get_or}
 use Rattle.rules.specs.Numbers.{invalid}
 use Rattle.rules.specs.Columns.{forward, backward, table, begin}
 use Rattle.rules.specs.TableRules.{used}

@@ -1,5 +1,4 @@
 -- The walk is counted into an empty part of the path; where it fits, it is written.
-use native.Mathlib.Omega.{arith}
 use Rattle.query.proofs.Handing.{too_long, tells_walk, ascent}
 use Rattle.query.proofs.hand_back.Goals as goal
 

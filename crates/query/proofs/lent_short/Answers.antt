@@ -1,5 +1,4 @@
 -- Each return is a length that is short, or the last test.
-use native.Mathlib.Omega.{arith}
 use Rattle.query.proofs.FirstMet.{path_short, fl_short, bl_short, fh_short, bh_short}
 use Rattle.query.proofs.lent_short.Goals as goal
 

@@ -2,14 +2,15 @@
 use mathlib.Core.Path.{sym, ◌∙◌}
 use native.Mathlib.Omega.{arith}
 use Rattle.std.proofs.lemmas.Result.{err_from_is_err_and}
-use Rattle.refusals.proofs.Tests.{named, first_graph, first_later, nodes_few, wrong_length, wrong_numbers, right_order}
+use Rattle.rules.proofs.Refused.{some_number}
+use Rattle.refusals.proofs.Tests.{first_graph, first_later, nodes_few, wrong_length, wrong_numbers, right_order}
 use Rattle.refusals.proofs.refusal.Goals as goal
 
 pub returns-in_err-check_graph : goal.returns-in_err-check_graph
 returns-in_err-check_graph c =
     let e = c.in_err-check_graph.ensures in
     let p = err_from_is_err_and c.from_residual.result c.from_residual.ensures.1 in
-    rw (p.1, p.2) (e ∙ sym (first_graph _ _ _ (λ z. named _ (e ∙ z))))
+    rw (p.1, p.2) (e ∙ sym (first_graph _ _ _ (λ z. some_number _ (e ∙ z))))
 
 pub returns-then-order-n : goal.returns-then-order-n
 returns-then-order-n c = sym (first_later _ _ _ (sym c.in_ok-check_graph.ensures) ∙ wrong_length _ _ c.if-order-n.true)

@@ -1,5 +1,4 @@
 -- The rounds that are left, from here, are all of them from the start.
-use mathlib.Core.Path.{◌≡◌}
 use Rattle.halves.specs.Slices.{Kept}
 use Rattle.turns.specs.Turning.{of}
 use Rattle.rounds.specs.Rounds.{RunningOn}

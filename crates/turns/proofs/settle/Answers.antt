@@ -1,7 +1,6 @@
 -- Relaxing, then the mark.
 use mathlib.Core.Path.{◌∙◌}
-use native.Mathlib.Omega.{arith}
-use lib.ListN.{length, length-set}
+use lib.ListN.{length-set}
 use Rattle.halves.specs.Labels.{put_settled}
 use Rattle.turns.proofs.Settling.{settles}
 use Rattle.turns.proofs.settle.Goals as goal

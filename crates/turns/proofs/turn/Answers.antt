@@ -1,6 +1,5 @@
 -- A turn. The outer invariant: labels and best are as at the start, since the item that changes them ends the turn, and what is
 -- left of the turn, from here, is the whole of it. The inner one: what is left of the scan decides as all of it.
-use mathlib.Core.List.{List}
 use mathlib.Core.Path.{refl, sym, ap, ◌∙◌}
 use Prim.Native.Nat.{ℕ, ◌+◌, ◌-◌, ◌<◌}
 use native.Mathlib.Omega.{arith}
@@ -13,7 +12,7 @@ use Rattle.halves.specs.Labels.{stamp, seen, half}
 use Rattle.turns.specs.declared.Best.{Best as Held}
 use Rattle.turns.specs.Turning.{of}
 use Rattle.turns.proofs.Reading.{lower_by, hit, miss, none_left}
-use Rattle.turns.proofs.Turning.{going_first, done_empty, r_below, starts_long, other_starts_long, ranks_long, scan_neighbour, scan_weight, scan_label, node_below, label_fits, facing_fits, node_small, meeting_fits, next_settled, done_heavy, next_stalled, settling, done_settles}
+use Rattle.turns.proofs.Turning.{going_first, done_empty, starts_long, other_starts_long, ranks_long, scan_neighbour, scan_weight, scan_label, node_below, label_fits, facing_fits, node_small, meeting_fits, next_settled, done_heavy, next_stalled, settling, done_settles}
 use Rattle.turns.proofs.Settling.{settled_stamps}
 use Rattle.turns.proofs.turn.Goals as goal
 use Rattle.turns.proofs.turn.Goals.{After-pop-top}
@@ -89,11 +88,11 @@ pub returns-after-outer : goal.returns-after-outer
 returns-after-outer c =
     record {
       turns = record {
-      turned = λ t y a. done_empty _ _ _ _ _ _ _ _ _ _ _ _ _ (of c.args.best) t _ _ (c.outer.invariant.4 t) c.outer-test.false y ∙ (λ j. record { half = half c.args.t.now.num_nodes c.args.half.now.base (sym c.outer.invariant.0 j) c.outer.half.heap.now c.outer.half.len; best = of (sym c.outer.invariant.1 j) });
-      ordered = (c.outer.invariant.4 c.requires.1).ordered;
-      held = (c.outer.invariant.4 c.requires.1).held;
-      stamps = rw c.outer.invariant.0 (λ n before. before);
-    };
+        turned = λ t y a. done_empty _ _ _ _ _ _ _ _ _ _ _ _ _ (of c.args.best) t _ _ (c.outer.invariant.4 t) c.outer-test.false y ∙ (λ j. record { half = half c.args.t.now.num_nodes c.args.half.now.base (sym c.outer.invariant.0 j) c.outer.half.heap.now c.outer.half.len; best = of (sym c.outer.invariant.1 j) });
+        ordered = (c.outer.invariant.4 c.requires.1).ordered;
+        held = (c.outer.invariant.4 c.requires.1).held;
+        stamps = rw c.outer.invariant.0 (λ n before. before);
+      };
       kept = record { labels = ap length c.outer.invariant.0; heap = c.outer.invariant.3; base = c.outer.invariant.2 };
     }
 
@@ -102,13 +101,13 @@ returns-then-best-weight c =
     let p = c.pop-top.ensures in
     record {
       turns = record {
-      turned = λ t y a.
-          done_heavy _ _ _ _ _ _ _ _ _ _ _ _ _ (of c.args.best) (t) _ _ (c.outer.invariant.4 (t)) c.outer-test.true _ _ c.pop-top.ensures ((λ j. ltb (sym c.outer.invariant.2 j) (stamp (sym c.outer.invariant.0 j) c.pop-top.result.node)) ∙ sym c.is_settled.ensures ∙ c.if-is_settled.false) (lt-ltb c.args.best.sum c.pop-top.result.weight (omega (arith, c.if-best-weight.true, ap (λ (x : Held). x.sum) c.outer.invariant.1))) y
-          ∙ (λ j. record { half = half c.args.t.now.num_nodes c.args.half.now.base (sym c.outer.invariant.0 j) c.pop-top.new.heap (c.outer.half.len - 1); best = of (sym c.outer.invariant.1 j) });
-      ordered = p.ordered;
-      held = omega (arith, p.long, (c.outer.invariant.4 c.requires.1).held);
-      stamps = rw c.outer.invariant.0 (λ n before. before);
-    };
+        turned = λ t y a.
+            done_heavy _ _ _ _ _ _ _ _ _ _ _ _ _ (of c.args.best) (t) _ _ (c.outer.invariant.4 (t)) c.outer-test.true _ _ c.pop-top.ensures ((λ j. ltb (sym c.outer.invariant.2 j) (stamp (sym c.outer.invariant.0 j) c.pop-top.result.node)) ∙ sym c.is_settled.ensures ∙ c.if-is_settled.false) (lt-ltb c.args.best.sum c.pop-top.result.weight (omega (arith, c.if-best-weight.true, ap (λ (x : Held). x.sum) c.outer.invariant.1))) y
+            ∙ (λ j. record { half = half c.args.t.now.num_nodes c.args.half.now.base (sym c.outer.invariant.0 j) c.pop-top.new.heap (c.outer.half.len - 1); best = of (sym c.outer.invariant.1 j) });
+        ordered = p.ordered;
+        held = omega (arith, p.long, (c.outer.invariant.4 c.requires.1).held);
+        stamps = rw c.outer.invariant.0 (λ n before. before);
+      };
       kept = record { labels = ap length c.outer.invariant.0; heap = c.pop-top.ensures.long ∙ c.outer.invariant.3; base = c.outer.invariant.2 };
     }
 
@@ -118,14 +117,14 @@ returns-after-loop-e c =
     let met = ap (λ (x : Held). improve (c.pop-top.result.weight + (seen c.args.facing.now.labels.now c.args.half.now.base c.pop-top.result.node).weight) c.pop-top.result.node (of x)) (sym c.outer.invariant.1) ∙ sym (rw c.requires.0 at c.meet-best.ensures) in
     record {
       turns = record {
-      turned = λ t y a.
-          done_settles _ _ _ _ _ _ _ _ _ _ _ _ _ (of c.args.best) (t) _ _ (c.outer.invariant.4 (t)) c.outer-test.true _ _ c.pop-top.ensures ((λ j. ltb (sym c.outer.invariant.2 j) (stamp (sym c.outer.invariant.0 j) c.pop-top.result.node)) ∙ sym c.is_settled.ensures ∙ c.if-is_settled.false) (le-ltb c.args.best.sum c.pop-top.result.weight (omega (arith, c.if-best-weight.false, ap (λ (x : Held). x.sum) c.outer.invariant.1)))
-          ((λ j. lower_by (sym c.outer.invariant.0 j) (sym c.outer.invariant.2 j) c.args.t.now.other.neighbours.now c.args.t.now.other.weights.now c.pop-top.result.weight (range (get_or c.args.t.now.other.starts.now (get_or c.args.t.now.ranks.now c.pop-top.result.node 0) 0) (get_or c.args.t.now.other.starts.now ((get_or c.args.t.now.ranks.now c.pop-top.result.node 0) + 1) 0))) ∙ sym c.loop-e.invariant ∙ none_left _ _ _ _ _ _ _ (omega arith))
-          c.outer.invariant.0 _ _ _ (rw c.outer.invariant.2 at c.settle.ensures.settles) y a
-          ∙ (λ j. record { half = half c.args.t.now.num_nodes c.args.half.now.base c.settle.new.half.labels.now c.settle.new.half.heap.now c.settle.new.half.len; best = met j });
-      ordered = (rw c.outer.invariant.2 at c.settle.ensures.settles).ordered;
-      held = omega (arith, (rw c.outer.invariant.2 at c.settle.ensures.settles).most, room, c.settle.ensures.kept.heap);
-      stamps = settled_stamps c.outer.invariant.0 (rw c.outer.invariant.2 at c.settle.ensures.settles);
-    };
+        turned = λ t y a.
+            done_settles _ _ _ _ _ _ _ _ _ _ _ _ _ (of c.args.best) (t) _ _ (c.outer.invariant.4 (t)) c.outer-test.true _ _ c.pop-top.ensures ((λ j. ltb (sym c.outer.invariant.2 j) (stamp (sym c.outer.invariant.0 j) c.pop-top.result.node)) ∙ sym c.is_settled.ensures ∙ c.if-is_settled.false) (le-ltb c.args.best.sum c.pop-top.result.weight (omega (arith, c.if-best-weight.false, ap (λ (x : Held). x.sum) c.outer.invariant.1)))
+            ((λ j. lower_by (sym c.outer.invariant.0 j) (sym c.outer.invariant.2 j) c.args.t.now.other.neighbours.now c.args.t.now.other.weights.now c.pop-top.result.weight (range (get_or c.args.t.now.other.starts.now (get_or c.args.t.now.ranks.now c.pop-top.result.node 0) 0) (get_or c.args.t.now.other.starts.now ((get_or c.args.t.now.ranks.now c.pop-top.result.node 0) + 1) 0))) ∙ sym c.loop-e.invariant ∙ none_left _ _ _ _ _ _ _ (omega arith))
+            c.outer.invariant.0 _ _ _ (rw c.outer.invariant.2 at c.settle.ensures.settles) y a
+            ∙ (λ j. record { half = half c.args.t.now.num_nodes c.args.half.now.base c.settle.new.half.labels.now c.settle.new.half.heap.now c.settle.new.half.len; best = met j });
+        ordered = (rw c.outer.invariant.2 at c.settle.ensures.settles).ordered;
+        held = omega (arith, (rw c.outer.invariant.2 at c.settle.ensures.settles).most, room, c.settle.ensures.kept.heap);
+        stamps = settled_stamps c.outer.invariant.0 (rw c.outer.invariant.2 at c.settle.ensures.settles);
+      };
       kept = record { labels = c.settle.ensures.kept.labels ∙ ap length c.outer.invariant.0; heap = c.settle.ensures.kept.heap ∙ c.pop-top.ensures.long ∙ c.outer.invariant.3; base = c.settle.ensures.kept.base ∙ c.outer.invariant.2 };
     }

@@ -1,7 +1,6 @@
 -- A turn. The outer invariant: labels and best are as at the start, since the item that changes them ends the turn, and what is
 -- left of the turn, from here, is the whole of it. The inner one: what is left of the scan decides as all of it.
 use mathlib.Core.Path.{◌≡◌}
-use Prim.Native.Nat.{◌-◌, ◌≤◌}
 use lib.ListN.{length}
 use Rattle.rules.specs.Lists.{range}
 use Rattle.turns.specs.Turning.{of, TurningOn}
