@@ -7,10 +7,9 @@ use lib.ListN.{length}
 use Rattle.rules.specs.Search.{Search, run, search_fuel}
 use Rattle.search_laws.proofs.Bounds.{left, paid_most, search_fuel_enough}
 use Rattle.graph.proofs.Standing.{within_pool}
-use Rattle.search.specs.declared.witness_search.Progress.{Progress}
 use Rattle.search.specs.Turns.{Turn, turn}
 use Rattle.search.specs.Searching.{World, Lent}
-use Rattle.search.specs.Promises.{Asked, Turned, Ran}
+use Rattle.search.specs.Promises.{Progress, Asked, Turned, Ran}
 use Rattle.search.proofs.Turns.{turn_less, run_turn, same_fuel}
 
 -- no more can leave than `most`, and what is to come is what came from s
@@ -76,3 +75,8 @@ module _ {m m' : Lent} {base avoid len count target sum limit most : ℕ} {r : P
           enough = omega (arith, fewer, x.enough);
           same = ap (λ (k : ℕ). run w.graph avoid limit target sum k next.search) again ∙ goes true e;
         }
+
+-- the base by another name
+pub asked_as : {m : Lent} {base base' len count target sum : ℕ} {w : World} {s : Search} → base' ≡ base → Asked m base len count target sum w s →
+    Asked m base' len count target sum w s
+asked_as e x = rw e x

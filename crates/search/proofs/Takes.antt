@@ -16,11 +16,10 @@ use Rattle.heap.specs.Items.{item}
 use Rattle.heap.specs.Promises.{Popped}
 use Rattle.heap.proofs.Laws.{holds_first}
 use Rattle.graph.proofs.Standing.{within_pool}
-use Rattle.search.specs.declared.witness_search.Progress.{Progress}
 use Rattle.search.specs.Labels.{label_at, settled_at, Reached}
 use Rattle.search.specs.Turns.{Turn, stop, turn}
 use Rattle.search.specs.Searching.{Searching, World, Lent, with_slices}
-use Rattle.search.specs.Promises.{Settling, Settled, Asked, Taking, Taken, Turned}
+use Rattle.search.specs.Promises.{Progress, Settling, Settled, Asked, Taking, Taken, Turned}
 use Rattle.search.proofs.Turns.{entry_passed, entry_settled, turn_empty, turn_limited, turn_heavy, turn_takes}
 use Rattle.search.proofs.Offers.{passed, size, head_leaves}
 

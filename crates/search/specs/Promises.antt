@@ -1,6 +1,6 @@
 -- What the functions ask and promise. Neither the graph nor the search is a value of the code, so a function asks that there are
 -- some for which its slices stand, and promises its answer for each of them.
-use Rattle.std.specs.Prelude.{List, [], map, ◌≡◌, ℕ, ◌+◌, ◌*◌, ◌^◌, ◌<◌, ◌≤◌, length, get_or}
+use Rattle.std.specs.Prelude.{Bool, List, [], map, ◌≡◌, ℕ, ◌+◌, ◌*◌, ◌^◌, ◌<◌, ◌≤◌, length, get_or}
 use Rattle.rules.specs.Numbers.{invalid, max_weight}
 use Rattle.rules.specs.Lists.{In}
 use Rattle.rules.specs.Graph.{outs}
@@ -10,7 +10,6 @@ use Rattle.heap.specs.Shape.{Ordered}
 use Rattle.lists.specs.Memory.{memory, arc_at, Chain}
 use Rattle.search.specs.declared.witness_search.Round.{Round}
 use Rattle.search.specs.declared.witness_search.WitnessSearch.{WitnessSearch}
-use Rattle.search.specs.declared.witness_search.Progress.{Progress}
 use Rattle.search.specs.Labels.{Stamped, Reached}
 use Rattle.search.specs.Turns.{cross, take, turn}
 use Rattle.search.specs.Searching.{most_sum, Searching, World, Standing, Lent, with_slices, Ready}
@@ -99,6 +98,15 @@ pub record Taking (m : Lent) (base len count target sum : ℕ) (w : World) (s : 
   pub light : (item m.heap 0).weight ≤ sum
   pub fits : count + 1 < 2 ^ 64
 
+-- where one step leaves a search, and whether it goes on
+pub record Progress : Type 0 where
+  pub len : ℕ
+  pub settled : ℕ
+  pub on : Bool
+
+abbrev pub progress : Round → Bool → Progress
+progress r on = record { len = r.len; settled = r.settled; on = on }
+
 pub record Taken (m : Lent) (base avoid target sum : ℕ) (r : Progress) (w : World) (s : Search) : Type 0 where
   pub on : r.on ≡ (take w.graph avoid target sum s).on
   pub ready : Ready w m base r.len r.settled (take w.graph avoid target sum s).search
@@ -168,3 +176,8 @@ Starts labels heap labels' heap' base start avoid r =
 pub record Kept (s s' : WitnessSearch) : Type 0 where
   pub labels : length s'.labels.now ≡ length s.labels.now
   pub heap : length s'.heap.now ≡ length s.heap.now
+
+-- the start and the avoided node are the same
+pub record SameStart (r r' : Round) : Type 0 where
+  pub base : r'.base ≡ r.base
+  pub avoid : r'.avoid ≡ r.avoid

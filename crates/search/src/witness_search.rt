@@ -3,10 +3,10 @@
 // Labels are two numbers a node: the weight at 2 * v and a stamp at 2 * v + 1. A search has a base: a stamp below it is of an
 // earlier search, the base itself says that v has a label, and the number after it that v is settled. So a new search clears
 // nothing. The graph's arcs are read where they stand: a node's out-arcs are a chain of places.
-ghost use Rattle.std.specs.Prelude.{◌||◌, ◌≡◌, ℕ, ◌+◌, ◌*◌, ◌≤◌, eqb, leb, length};
+ghost use Rattle.std.specs.Prelude.{false, ◌||◌, ◌≡◌, ℕ, ◌+◌, ◌*◌, ◌≤◌, eqb, leb, length};
 ghost use Rattle.search.specs.Labels.{label_at, settled_at, put_label, Stamped};
 ghost use Rattle.search.specs.Searching.{lent};
-ghost use Rattle.search.specs.Promises.{Some, Offering, Offered, Crossed, Relaxing, Relaxes, Settling, Settles, Asked, Taking, Takes, Turns, Runs, Asks, Finds, Starting, Starts, found, Kept};
+ghost use Rattle.search.specs.Promises.{Some, Offering, Offered, Crossed, Relaxing, Relaxes, Settling, Settles, Asked, Taking, Takes, Turns, Runs, Asks, Finds, Starting, Starts, found, progress, SameStart, Kept};
 
 use graph::preparation_graph::PreparationGraph;
 use rules::{INVALID, WEIGHT_MAX};
@@ -26,14 +26,6 @@ pub struct Round {
     pub len: usize,
     pub settled: u64,
     pub avoid: u32,
-}
-
-// Where one step leaves a search, and whether it goes on. Its numbers are wanted either way: ControlFlow would hold them twice.
-#[derive(Clone, Copy)]
-pub struct Progress {
-    pub len: usize,
-    pub settled: u64,
-    pub on: bool,
 }
 
 // The label of v; the no-weight mark where it has none.
@@ -184,152 +176,6 @@ fn reached(labels: &[u64], base: u64, v: usize, target: usize, weight_limit: u64
     v == target
 }
 
-// The first entry leaves. That of a settled node is passed over.
-fn take(
-    arcs: &[u32],
-    weights: &[u64],
-    nodes: &[u32],
-    labels: &mut [u64],
-    heap: &mut [u64],
-    base: u64,
-    avoid: u32,
-    len: usize,
-    settled: u64,
-    target: usize,
-    weight_limit: u64,
-) -> Progress
-    requires { Some (Taking (lent arcs.now weights.now nodes.now labels.old heap.old) base len settled target weight_limit) }
-    ensures { Takes (lent arcs.now weights.now nodes.now labels.old heap.old) labels.new heap.new base avoid len settled target weight_limit result }
-{
-    let top = heap::pop(heap, len);
-    let v = top.node as usize;
-    if is_settled(labels, base, v) {
-        return Progress {
-            len: len - 1,
-            settled,
-            on: true,
-        };
-    }
-    let left = settle(
-        arcs,
-        weights,
-        nodes,
-        labels,
-        heap,
-        base,
-        avoid,
-        len - 1,
-        v,
-        top.weight,
-    );
-    Progress {
-        len: left,
-        settled: settled + 1,
-        on: !reached(labels, base, v, target, weight_limit),
-    }
-}
-
-// One turn. The search stops, tested in this order, with its heap empty, its settled count at `settled_nodes_limit`, or the next
-// weight above `weight_limit`.
-fn turn(
-    arcs: &[u32],
-    weights: &[u64],
-    nodes: &[u32],
-    labels: &mut [u64],
-    heap: &mut [u64],
-    base: u64,
-    avoid: u32,
-    len: usize,
-    settled: u64,
-    target: usize,
-    weight_limit: u64,
-    settled_nodes_limit: u32,
-) -> Progress
-    requires { Some (Asked (lent arcs.now weights.now nodes.now labels.old heap.old) base len settled target weight_limit) }
-    ensures { Turns (lent arcs.now weights.now nodes.now labels.old heap.old) labels.new heap.new base avoid len settled target weight_limit settled_nodes_limit result }
-{
-    if len == 0 {
-        return Progress {
-            len,
-            settled,
-            on: false,
-        };
-    }
-    if settled_nodes_limit as u64 <= settled {
-        return Progress {
-            len,
-            settled,
-            on: false,
-        };
-    }
-    if weight_limit < heap::peek(heap).weight {
-        return Progress {
-            len,
-            settled,
-            on: false,
-        };
-    }
-    take(
-        arcs,
-        weights,
-        nodes,
-        labels,
-        heap,
-        base,
-        avoid,
-        len,
-        settled,
-        target,
-        weight_limit,
-    )
-}
-
-// Turns until one ends the search. No more entries can leave than `left`. It shows that the loop ends, and nothing reads it, so
-// the compiled loop is without it.
-fn run(
-    arcs: &[u32],
-    weights: &[u64],
-    nodes: &[u32],
-    labels: &mut [u64],
-    heap: &mut [u64],
-    base: u64,
-    avoid: u32,
-    len: usize,
-    settled: u64,
-    target: usize,
-    weight_limit: u64,
-    settled_nodes_limit: u32,
-) -> Progress
-    requires { Some (Asked (lent arcs.now weights.now nodes.now labels.old heap.old) base len settled target weight_limit) }
-    ensures { Runs (lent arcs.now weights.now nodes.now labels.old heap.old) labels.new heap.new base avoid len settled target weight_limit settled_nodes_limit result }
-{
-    let mut len = len;
-    let mut settled = settled;
-    let mut left = weights.len() + 1;
-    loop {
-        let now = turn(
-            arcs,
-            weights,
-            nodes,
-            labels,
-            heap,
-            base,
-            avoid,
-            len,
-            settled,
-            target,
-            weight_limit,
-            settled_nodes_limit,
-        );
-        if !now.on {
-            return now;
-        }
-        len = now.len;
-        settled = now.settled;
-        left -= 1;
-    }
-}
-
 fn clear_labels(labels: &mut [u64], num_nodes: usize)
     requires { 2 * num_nodes ≤ length labels.old }
     ensures { Stamped num_nodes labels.new 0 }
@@ -373,6 +219,102 @@ impl<'a> WitnessSearch<'a> {
         };
     }
 
+    // The first entry leaves. That of a settled node is passed over. Whether the search goes on.
+    fn take(&mut self, graph: &PreparationGraph, target: usize, weight_limit: u64) -> bool
+        requires { Some (Taking (lent graph.now.arcs.now graph.now.weights.now graph.now.nodes.now self.old.labels.now self.old.heap.now) self.old.round.base self.old.round.len self.old.round.settled target weight_limit) }
+        ensures takes { Takes (lent graph.now.arcs.now graph.now.weights.now graph.now.nodes.now self.old.labels.now self.old.heap.now) self.new.labels.now self.new.heap.now self.old.round.base self.old.round.avoid self.old.round.len self.old.round.settled target weight_limit
+            (progress self.new.round result) }
+        ensures round { SameStart self.old.round self.new.round }
+        ensures kept { Kept self.old self.new }
+    {
+        let Round {
+            base,
+            len,
+            settled,
+            avoid,
+        } = self.round;
+        let labels = &mut *self.labels;
+        let heap = &mut *self.heap;
+        let top = heap::pop(heap, len);
+        let v = top.node as usize;
+        if is_settled(labels, base, v) {
+            self.round.len = len - 1;
+            return true;
+        }
+        let left = settle(
+            graph.arcs,
+            graph.weights,
+            graph.nodes,
+            labels,
+            heap,
+            base,
+            avoid,
+            len - 1,
+            v,
+            top.weight,
+        );
+        self.round = Round {
+            base,
+            len: left,
+            settled: settled + 1,
+            avoid,
+        };
+        !reached(labels, base, v, target, weight_limit)
+    }
+
+    // One turn, and whether the search goes on. It stops, tested in this order, with its heap empty, its settled count at
+    // `settled_nodes_limit`, or the next weight above `weight_limit`.
+    fn turn(
+        &mut self,
+        graph: &PreparationGraph,
+        target: usize,
+        weight_limit: u64,
+        settled_nodes_limit: u32,
+    ) -> bool
+        requires { Some (Asked (lent graph.now.arcs.now graph.now.weights.now graph.now.nodes.now self.old.labels.now self.old.heap.now) self.old.round.base self.old.round.len self.old.round.settled target weight_limit) }
+        ensures turns { Turns (lent graph.now.arcs.now graph.now.weights.now graph.now.nodes.now self.old.labels.now self.old.heap.now) self.new.labels.now self.new.heap.now self.old.round.base self.old.round.avoid self.old.round.len self.old.round.settled target weight_limit settled_nodes_limit
+            (progress self.new.round result) }
+        ensures round { SameStart self.old.round self.new.round }
+        ensures kept { Kept self.old self.new }
+    {
+        if self.round.len == 0 {
+            return false;
+        }
+        if settled_nodes_limit as u64 <= self.round.settled {
+            return false;
+        }
+        let heap = &mut *self.heap;
+        if weight_limit < heap::peek(heap).weight {
+            return false;
+        }
+        self.take(graph, target, weight_limit)
+    }
+
+    // Turns until one ends the search. No more entries can leave than `left`. It shows that the loop ends, and nothing reads it, so
+    // the compiled loop is without it.
+    fn run(
+        &mut self,
+        graph: &PreparationGraph,
+        target: usize,
+        weight_limit: u64,
+        settled_nodes_limit: u32,
+    )
+        requires { Some (Asked (lent graph.now.arcs.now graph.now.weights.now graph.now.nodes.now self.old.labels.now self.old.heap.now) self.old.round.base self.old.round.len self.old.round.settled target weight_limit) }
+        ensures runs { Runs (lent graph.now.arcs.now graph.now.weights.now graph.now.nodes.now self.old.labels.now self.old.heap.now) self.new.labels.now self.new.heap.now self.old.round.base self.old.round.avoid self.old.round.len self.old.round.settled target weight_limit settled_nodes_limit
+            (progress self.new.round false) }
+        ensures round { SameStart self.old.round self.new.round }
+        ensures kept { Kept self.old self.new }
+    {
+        let mut left = graph.weights.len() + 1;
+        'turns: loop {
+            let on = self.turn(graph, target, weight_limit, settled_nodes_limit);
+            if !on {
+                return;
+            }
+            left -= 1;
+        }
+    }
+
     // A bound on the least weight from the start to the target: the target's label. It answers at once where the target is settled
     // or labelled within the limit.
     pub fn find_max_weight(
@@ -388,14 +330,8 @@ impl<'a> WitnessSearch<'a> {
         ensures kept { Kept self.old self.new }
     {
         let v = target as usize;
-        let Round {
-            base,
-            len,
-            settled,
-            avoid,
-        } = self.round;
+        let base = self.round.base;
         let labels = &mut *self.labels;
-        let heap = &mut *self.heap;
         let weight = get_current_weight(labels, base, v);
         if weight <= weight_limit {
             return weight;
@@ -403,26 +339,8 @@ impl<'a> WitnessSearch<'a> {
         if is_settled(labels, base, v) {
             return weight;
         }
-        let end = run(
-            graph.arcs,
-            graph.weights,
-            graph.nodes,
-            labels,
-            heap,
-            base,
-            avoid,
-            len,
-            settled,
-            v,
-            weight_limit,
-            settled_nodes_limit,
-        );
-        self.round = Round {
-            base,
-            len: end.len,
-            settled: end.settled,
-            avoid,
-        };
+        self.run(graph, v, weight_limit, settled_nodes_limit);
+        let labels = &mut *self.labels;
         get_current_weight(labels, base, v)
     }
 }

@@ -4,23 +4,23 @@ use mathlib.Core.Bool.{not}
 use Rattle.rules.specs.Search.{with_heap}
 use Rattle.search.proofs.Offers.{label_room}
 use Rattle.search.proofs.Takes.{leaves_reached, taken_over, taken_settling, taken_settled}
-use Rattle.search.proofs.witness_search.take.Goals as goal
+use Rattle.search.proofs.witness_search.WitnessSearch.take.Goals as goal
 
 pub is_settled-requires : goal.is_settled-requires
 is_settled-requires c =
     let x = c.requires.2 in
     label_room x.asked.ready.searching _ (leaves_reached x c.pop-top.ensures).inside
 
-pub returns-then-is_settled : goal.returns-then-is_settled
-returns-then-is_settled c = λ w s x. taken_over x c.pop-top.ensures _ (sym c.is_settled.ensures ∙ c.if-is_settled.true)
+pub returns-then-is_settled-clause-takes : goal.returns-then-is_settled-clause-takes
+returns-then-is_settled-clause-takes c = λ w s x. taken_over x c.pop-top.ensures _ (sym c.is_settled.ensures ∙ c.if-is_settled.true)
 
 pub settle-left-requires : goal.settle-left-requires
 settle-left-requires c =
     let r = c.requires in
     (r.0, with_heap _ r.1, taken_settling r.2 c.pop-top.ensures (sym c.is_settled.ensures ∙ c.if-is_settled.false))
 
-pub returns : goal.returns
-returns c =
+pub returns-clause-takes : goal.returns-clause-takes
+returns-clause-takes c =
     let off = sym c.is_settled.ensures ∙ c.if-is_settled.false in
     let popped = c.pop-top.ensures in
     λ w s x.
