@@ -33,7 +33,7 @@ bare labels base = record { label = seen labels base; settled = λ v. false; hea
 unfoldable pub steps : List ℕ → ℕ → ℕ → ℕ
 steps labels base v = length (climb max_nodes (bare labels base) v)
 
-module _ {n : ℕ} {h : Hierarchy} {s : Side} {labels : List ℕ} {base v : ℕ} (a : Ascent n h s labels base v) where
+module _ {n : ℕ} {h g : Hierarchy} {s : Side} {labels : List ℕ} {base v : ℕ} (a : Ascent n h g s labels base v) where
   abbrev rules : TableRules n h
   rules = a.tables.rules
 
@@ -78,10 +78,10 @@ module _ {n : ℕ} {h : Hierarchy} {s : Side} {labels : List ℕ} {base v : ℕ}
     parent_under : rank h own.parent < rank h v
     parent_under = rw is_own at (parent_lower n h rules s l.es l.floor l.b x l.sound v (rw is_own along))
 
-    abbrev up : Ascent n h s labels base own.parent
+    abbrev up : Ascent n h g s labels base own.parent
     up = record { tables = a.tables; below = parent_below; labelled = l }
 
-    via_used : Used n h s own.via
+    via_used : Used n h g s own.via
     via_used =
         record { tables = a.tables; below = place_used n h rules s own.parent parent_below own.via along.place }
 
@@ -99,7 +99,7 @@ module _ {n : ℕ} {h : Hierarchy} {s : Side} {labels : List ℕ} {base v : ℕ}
         ∙ root_enough n h rules s l.es l.floor l.b x l.sound (n - 1) n own.parent (omega (arith, parent_under, rank_low)) (omega (arith, parent_under, rank_low))
 
 -- The chain is read off the labels alone.
-climb_same : {n : ℕ} {h : Hierarchy} {s : Side} {labels : List ℕ} {base v : ℕ} (f : ℕ) (a : Ascent n h s labels base v) → climb f (bare labels base) v ≡ climb f (x a) v
+climb_same : {n : ℕ} {h g : Hierarchy} {s : Side} {labels : List ℕ} {base v : ℕ} (f : ℕ) (a : Ascent n h g s labels base v) → climb f (bare labels base) v ≡ climb f (x a) v
 unfolding climb
 climb_same zero a = refl
 climb_same {labels = labels} {base = base} {v = v} (suc f) a =
@@ -109,7 +109,7 @@ climb_same {labels = labels} {base = base} {v = v} (suc f) a =
     climb_on f (bare labels base) v (rw (is_own a) at t) ∙
     (ap (λ (c : List ℕ). c ++ ((own a).via ∷ [])) (climb_same {v = (own a).parent} f (up a t)) ∙ sym (rw (is_own a) at (climb_on f (x a) v t))))
 
-module _ {n : ℕ} {h : Hierarchy} {s : Side} {labels : List ℕ} {base v : ℕ} (a : Ascent n h s labels base v) where
+module _ {n : ℕ} {h g : Hierarchy} {s : Side} {labels : List ℕ} {base v : ℕ} (a : Ascent n h g s labels base v) where
   steps_are : steps labels base v ≡ length (climb n (x a) v)
   unfolding steps
   steps_are =
@@ -129,10 +129,10 @@ module _ {n : ℕ} {h : Hierarchy} {s : Side} {labels : List ℕ} {base v : ℕ}
       pub parent_too : o.parent < n
       parent_too = rw is (parent_below a goes_on)
 
-      abbrev pub from_parent : Ascent n h s labels base o.parent
+      abbrev pub from_parent : Ascent n h g s labels base o.parent
       from_parent = record { tables = a.tables; below = parent_too; labelled = a.labelled }
 
-      pub along_used : Used n h s o.via
+      pub along_used : Used n h g s o.via
       along_used = rw is (via_used a goes_on)
 
       -- the entry's number is not cut
@@ -140,7 +140,7 @@ module _ {n : ℕ} {h : Hierarchy} {s : Side} {labels : List ℕ} {base v : ℕ}
       uncut = omega (arith, along_used.below, a.tables.few s)
 
 -- a parent has one step fewer
-pub fewer : {n : ℕ} {h : Hierarchy} {s : Side} {labels : List ℕ} {base v : ℕ} (a : Ascent n h s labels base v) (o : Label) →
+pub fewer : {n : ℕ} {h g : Hierarchy} {s : Side} {labels : List ℕ} {base v : ℕ} (a : Ascent n h g s labels base v) (o : Label) →
     o ≡ seen labels base v → (o.via ≡ invalid → ⊥) → steps labels base o.parent < steps labels base v
 fewer {n} a o is some =
     let t = goes_on a o is some in
@@ -154,7 +154,7 @@ fewer {n} a o is some =
     ))
 
 -- Forward, the end comes first.
-module _ {n : ℕ} {h : Hierarchy} {labels : List ℕ} {base v : ℕ} (a : Ascent n h forward labels base v) (o : Label) (is : o ≡ seen labels base v) where
+module _ {n : ℕ} {h g : Hierarchy} {labels : List ℕ} {base v : ℕ} (a : Ascent n h g forward labels base v) (o : Label) (is : o ≡ seen labels base v) where
   pub forward_none : o.via ≡ invalid → half_walk n h forward (half n base labels a.labelled.heap a.labelled.len) v ≡ []
   unfolding half_walk flat_map
   forward_none none = rw (climb_none a (none_own a o is none))
@@ -172,7 +172,7 @@ module _ {n : ℕ} {h : Hierarchy} {labels : List ℕ} {base v : ℕ} (a : Ascen
       )
 
 -- Backward, it comes last and is a node of the walk.
-module _ {n : ℕ} {h : Hierarchy} {labels : List ℕ} {base v : ℕ} (a : Ascent n h backward labels base v) (o : Label) (is : o ≡ seen labels base v) where
+module _ {n : ℕ} {h g : Hierarchy} {labels : List ℕ} {base v : ℕ} (a : Ascent n h g backward labels base v) (o : Label) (is : o ≡ seen labels base v) where
   pub backward_none : o.via ≡ invalid → half_walk n h backward (half n base labels a.labelled.heap a.labelled.len) v ≡ v ∷ []
   unfolding half_walk flat_map
   backward_none none = rw (climb_none a (none_own a o is none), root_own a (none_own a o is none))

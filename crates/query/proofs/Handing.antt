@@ -72,9 +72,14 @@ module _ (c : QueryCall) (sum : ℕ) (w path : List ℕ) (e : c.path ≡ path) (
 
 -- What the walk is read from, for any limit.
 module _ {n : ℕ} {h : Hierarchy} {fl bl : List ℕ} {base v : ℕ} (p : Handing n h fl bl base v) where
-  abbrev pub ascent : {s : Side} {labels : List ℕ} → Labelled n h s labels base → Ascent n h s labels base v
-  ascent l = record { tables = record { rules = p.rules; few = p.few }; below = p.below; labelled = l }
+  abbrev pub ascent : {s : Side} {labels : List ℕ} → Labelled n h s labels base → Ascent n h h s labels base v
+  ascent l =
+      record {
+        tables = record { rules = p.rules; few = p.few; tails_are = λ s. refl; in_numbers_are = λ s. refl; out_numbers_are = λ s. refl };
+        below = p.below;
+        labelled = l;
+      }
 
   pub extracting : (limit : ℕ) → limit < 2 ^ 64 → Extracting h fl bl base v limit
   extracting limit fits =
-      record { n = n; fwd = ascent p.fwd; bwd = ascent p.bwd; fwd_room = p.fwd_room; bwd_room = p.bwd_room; fits = fits }
+      record { n = n; h = h; fwd = ascent p.fwd; bwd = ascent p.bwd; fwd_room = p.fwd_room; bwd_room = p.bwd_room; fits = fits }

@@ -2,7 +2,7 @@
 use mathlib.Core.Bool.{true, false}
 use mathlib.Core.List.{List, [], ◌∷◌, ◌++◌}
 use mathlib.Core.Logic.{inl, inr}
-use mathlib.Core.Path.{◌≡◌, refl, sym, ap, ◌∙◌}
+use mathlib.Core.Path.{◌≡◌, refl, sym, ap, ap₂, ◌∙◌}
 use Prim.Native.Nat.{ℕ, zero, suc, ◌+◌, ◌-◌, ◌^◌, ◌≤◌, ◌<◌}
 use native.Mathlib.Nat.{sub-zero}
 use native.Mathlib.Omega.{arith}
@@ -22,7 +22,7 @@ use Rattle.tables.specs.Shapes.{Shape}
 use Rattle.tables.specs.Lent.{read}
 use Rattle.tables.proofs.Entries.{entry_read}
 use Rattle.tables.proofs.Check.{shape_of}
-use Rattle.unpacking.specs.Written.{tails, Used, Put}
+use Rattle.unpacking.specs.Written.{tails, Shown, Used, Put}
 
 -- Lists.
 take_parts : (limit : ℕ) (xs ys : List ℕ) → take limit (xs ++ ys) ≡ take limit xs ++ take (limit - length (take limit xs)) ys
@@ -99,6 +99,35 @@ unfolding tails table room
 tails_long n h forward shape = refl
 tails_long n h backward shape = shape.columns.neighbours
 
+-- Unpacking reads no other column.
+module _ {n : ℕ} {h g : Hierarchy} (k : Shown n h g) where
+  same_kind : (s : Side) (e : ℕ) → is_shortcut (entry (table g s) e) ≡ is_shortcut (entry (table h s) e)
+  unfolding is_shortcut entry
+  same_kind s e = rw (k.in_numbers_are s, k.out_numbers_are s)
+
+  same_tail : (s : Side) (e : ℕ) → tail_of s (entry (table g s) e) ≡ tail_of s (entry (table h s) e)
+  unfolding tail_of entry tails table
+  same_tail forward e = rw (k.tails_are forward)
+  same_tail backward e = rw (k.tails_are backward)
+
+  same_in : (s : Side) (e : ℕ) → (entry (table g s) e).in_number ≡ (entry (table h s) e).in_number
+  unfolding entry
+  same_in s e = rw (k.in_numbers_are s)
+
+  same_out : (s : Side) (e : ℕ) → (entry (table g s) e).out_number ≡ (entry (table h s) e).out_number
+  unfolding entry
+  same_out s e = rw (k.out_numbers_are s)
+
+  unpack_same : (f : ℕ) (s : Side) (e : ℕ) → unpack g f s e ≡ unpack h f s e
+  unfolding unpack
+  unpack_same zero s e = refl
+  unpack_same (suc f) s e =
+      on_test (is_shortcut (entry (table h s) e))
+      (λ t.
+      rw (unpack_shortcut g f s e (same_kind s e ∙ t), unpack_shortcut h f s e t, same_in s e, same_out s e)
+      (ap₂ (λ xs ys. xs ++ ys) (unpack_same f backward (entry (table h s) e).in_number) (unpack_same f forward (entry (table h s) e).out_number)))
+      (λ t. rw (unpack_plain g f s e (same_kind s e ∙ t), unpack_plain h f s e t, same_tail s e))
+
 -- An entry opens into some node.
 module _ (n : ℕ) (h : Hierarchy) (rules : TableRules n h) where
   unpack_some : (f : ℕ) (s : Side) (e : ℕ) → e < used n (table h s) → rank h (entry (table h s) e).base < f → 0 < length (unpack h f s e)
@@ -116,9 +145,9 @@ module _ (n : ℕ) (h : Hierarchy) (rules : TableRules n h) where
 
 -- How many nodes an entry opens into, by the columns alone: every rank is below the most nodes, so that fuel is enough.
 unfoldable pub opening : Hierarchy → Side → ℕ → ℕ
-opening h s e = length (unpack h max_nodes s e)
+opening g s e = length (unpack g max_nodes s e)
 
-module _ {n : ℕ} {h : Hierarchy} {s : Side} {e : ℕ} (u : Used n h s e) where
+module _ {n : ℕ} {h g : Hierarchy} {s : Side} {e : ℕ} (u : Used n h g s e) where
   abbrev rules : TableRules n h
   rules = u.tables.rules
 
@@ -134,32 +163,32 @@ module _ {n : ℕ} {h : Hierarchy} {s : Side} {e : ℕ} (u : Used n h s e) where
   own_rules : EntryRules n h s (rank h (entry (table h s) e).base) (entry (table h s) e)
   own_rules = used_entry n h rules s e u.below
 
-  pub tail_room : e < length (tails h s)
-  tail_room = omega (arith, inside, tails_long n h s shape)
+  pub tail_room : e < length (tails g s)
+  tail_room = omega (arith, inside, tails_long n h s shape, ap length (u.tables.tails_are s))
 
-  pub in_room : e < length (table h s).in_numbers
-  in_room = omega (arith, inside, shape.columns.in_numbers)
+  pub in_room : e < length (table g s).in_numbers
+  in_room = omega (arith, inside, shape.columns.in_numbers, ap length (u.tables.in_numbers_are s))
 
-  pub out_room : e < length (table h s).out_numbers
-  out_room = omega (arith, inside, shape.columns.out_numbers)
+  pub out_room : e < length (table g s).out_numbers
+  out_room = omega (arith, inside, shape.columns.out_numbers, ap length (u.tables.out_numbers_are s))
 
   abbrev a : ℕ
-  a = get_or (table h s).in_numbers e 0
+  a = get_or (table g s).in_numbers e 0
 
   abbrev b : ℕ
-  b = get_or (table h s).out_numbers e 0
+  b = get_or (table g s).out_numbers e 0
 
   in_is : (entry (table h s) e).in_number ≡ a
-  in_is = ap (λ (x : Entry). x.in_number) is_read
+  in_is = ap (λ (x : Entry). x.in_number) is_read ∙ ap (λ (l : List ℕ). get_or l e 0) (u.tables.in_numbers_are s)
 
   out_is : (entry (table h s) e).out_number ≡ b
-  out_is = ap (λ (x : Entry). x.out_number) is_read
+  out_is = ap (λ (x : Entry). x.out_number) is_read ∙ ap (λ (l : List ℕ). get_or l e 0) (u.tables.out_numbers_are s)
 
-  tail_is : tail_of s (entry (table h s) e) ≡ get_or (tails h s) e 0
-  tail_is = ap (tail_of s) is_read ∙ tail_read h s e
+  tail_is : tail_of s (entry (table h s) e) ≡ get_or (tails g s) e 0
+  tail_is = ap (tail_of s) is_read ∙ (tail_read h s e ∙ ap (λ (l : List ℕ). get_or l e 0) (u.tables.tails_are s))
 
   -- no used entry has the mark as its number
-  pub plain : a ≡ invalid → unpacked h s e ≡ get_or (tails h s) e 0 ∷ []
+  pub plain : a ≡ invalid → unpacked h s e ≡ get_or (tails g s) e 0 ∷ []
   unfolding is_shortcut table
   plain mark = unpacked_plain h s e both_marks ∙ ap (λ (x : ℕ). x ∷ []) tail_is
     where
@@ -171,18 +200,19 @@ module _ {n : ℕ} {h : Hierarchy} {s : Side} {e : ℕ} (u : Used n h s e) where
           ]
 
   -- the columns say how much it opens into
-  counted : opening h s e ≡ length (unpacked h s e)
+  counted : opening g s e ≡ length (unpacked h s e)
   unfolding opening unpacked
   counted =
       ap length
-      (unpack_enough n h rules max_nodes _ s e u.below (omega (arith, rules.ranks_below _ own_rules.base_below, rules.nodes)) (omega arith))
+      (unpack_same u.tables max_nodes s e ∙
+      unpack_enough n h rules max_nodes _ s e u.below (omega (arith, rules.ranks_below _ own_rules.base_below, rules.nodes)) (omega arith))
 
   some : 0 < length (unpacked h s e)
   unfolding unpacked
   some = unpack_some n h rules _ s e u.below (omega arith)
 
 -- A shortcut opens into two used entries, each into fewer nodes.
-module _ {n : ℕ} {h : Hierarchy} {s : Side} {e : ℕ} (u : Used n h s e) (more : get_or (table h s).in_numbers e 0 ≡ invalid → ⊥) where
+module _ {n : ℕ} {h g : Hierarchy} {s : Side} {e : ℕ} (u : Used n h g s e) (more : get_or (table g s).in_numbers e 0 ≡ invalid → ⊥) where
   shortcut : is_shortcut (entry (table h s) e) ≡ true
   unfolding is_shortcut
   shortcut = rw (ne_eqb (entry (table h s) e).in_number invalid (λ z. more (sym (in_is u) ∙ z)), is_shortcut)
@@ -190,22 +220,22 @@ module _ {n : ℕ} {h : Hierarchy} {s : Side} {e : ℕ} (u : Used n h s e) (more
   opens : Opens n h s (entry (table h s) e)
   opens = shortcut_opens n h s _ (entry (table h s) e) (own_rules u) shortcut
 
-  pub open_in : Used n h backward (a u)
+  pub open_in : Used n h g backward (a u)
   unfolding table
   open_in = record { tables = u.tables; below = rw (in_is u) at opens.in_used }
 
-  pub open_out : Used n h forward (b u)
+  pub open_out : Used n h g forward (b u)
   unfolding table
   open_out = record { tables = u.tables; below = rw (out_is u) at opens.out_used }
 
   pub both : unpacked h s e ≡ unpacked h backward (a u) ++ unpacked h forward (b u)
   both = rw (in_is u, out_is u) at (unpacked_shortcut n h u.tables.rules s e u.below shortcut)
 
-  sum : opening h s e ≡ opening h backward (a u) + opening h forward (b u)
+  sum : opening g s e ≡ opening g backward (a u) + opening g forward (b u)
   sum = rw (counted u, counted open_in, counted open_out, both) (length-append (unpacked h backward (a u)) (unpacked h forward (b u)))
 
-  pub in_fewer : opening h backward (a u) < opening h s e
+  pub in_fewer : opening g backward (a u) < opening g s e
   in_fewer = omega (arith, sum, counted open_out, some open_out)
 
-  pub out_fewer : opening h forward (b u) < opening h s e
+  pub out_fewer : opening g forward (b u) < opening g s e
   out_fewer = omega (arith, sum, counted open_in, some open_in)

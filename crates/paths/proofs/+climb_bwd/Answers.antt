@@ -20,7 +20,7 @@ overflow_cast-via t c = omega (arith, uncut c.requires.ascent _ c.load-own.ensur
 pub unpack_bwd-first-requires : goal.unpack_bwd-first-requires
 unpack_bwd-first-requires t c =
     let p = c.requires in
-    record { n = p.n; entry = along_used p.ascent _ c.load-own.ensures c.if-via.false; fits = p.fits }
+    record { n = p.n; h = p.h; entry = along_used p.ascent _ c.load-own.ensures c.if-via.false; fits = p.fits }
 
 pub overflow_add-at : goal.overflow_add-at
 overflow_add-at t c =
@@ -36,7 +36,7 @@ climb_bwd-then-requires t c =
     let p = c.requires in
     let is = c.load-own.ensures in
     let some = c.if-via.false in
-    (rw (← c.decreases) (fewer p.ascent _ is some), record { n = p.n; ascent = from_parent p.ascent _ is some; room = p.room; fits = rest_fits (c.unpack_bwd-first.ensures.put (along_used p.ascent _ is some)) p.fits })
+    (rw (← c.decreases) (fewer p.ascent _ is some), record { n = p.n; h = p.h; ascent = from_parent p.ascent _ is some; room = p.room; fits = rest_fits (c.unpack_bwd-first.ensures.put (along_used p.ascent _ is some)) p.fits })
 
 pub overflow_add-result : goal.overflow_add-result
 overflow_add-result t c =

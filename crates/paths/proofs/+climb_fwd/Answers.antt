@@ -16,7 +16,7 @@ climb_fwd-first-requires t c =
     let p = c.requires in
     let is = c.load-own.ensures in
     let some = c.if-via.false in
-    (rw (← c.decreases) (fewer p.ascent _ is some), record { n = p.n; ascent = from_parent p.ascent _ is some; room = p.room; fits = p.fits })
+    (rw (← c.decreases) (fewer p.ascent _ is some), record { n = p.n; h = p.h; ascent = from_parent p.ascent _ is some; room = p.room; fits = p.fits })
 
 pub overflow_cast-via : goal.overflow_cast-via
 overflow_cast-via t c = omega (arith, uncut c.requires.ascent _ c.load-own.ensures c.if-via.false)
@@ -35,7 +35,7 @@ unpack_fwd-then-requires t c =
     let p = c.requires in
     let is = c.load-own.ensures in
     let some = c.if-via.false in
-    record { n = p.n; entry = along_used p.ascent _ is some; fits = rest_fits (c.climb_fwd-first.ensures.put (from_parent p.ascent _ is some)) p.fits }
+    record { n = p.n; h = p.h; entry = along_used p.ascent _ is some; fits = rest_fits (c.climb_fwd-first.ensures.put (from_parent p.ascent _ is some)) p.fits }
 
 pub overflow_add-result : goal.overflow_add-result
 overflow_add-result t c =

@@ -7,7 +7,7 @@ use Rattle.paths.proofs.extract_nodes.Goals as goal
 pub climb_fwd-first-requires : goal.climb_fwd-first-requires
 climb_fwd-first-requires c =
     let p = c.requires.1 in
-    record { n = p.n; ascent = p.fwd; room = p.fwd_room; fits = omega (arith, p.fits) }
+    record { n = p.n; h = p.h; ascent = p.fwd; room = p.fwd_room; fits = omega (arith, p.fits) }
 
 pub overflow_sub-limit : goal.overflow_sub-limit
 overflow_sub-limit c = first_within (c.climb_fwd-first.ensures.put c.requires.1.fwd)
@@ -17,6 +17,7 @@ climb_bwd-then-requires c =
     let p = c.requires.1 in
     record {
       n = p.n;
+      h = p.h;
       ascent = rw c.requires.0 p.bwd;
       room = p.bwd_room;
       fits = omega (arith, p.fits, first_within (c.climb_fwd-first.ensures.put p.fwd));

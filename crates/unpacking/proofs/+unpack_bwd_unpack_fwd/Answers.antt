@@ -31,7 +31,7 @@ unfolding table
 unpack_bwd-unpack_bwd-first-requires t c =
     let u = c.requires.entry in
     let m = c.if-a.false in
-    (rw (← c.decreases) (in_fewer u m), record { n = c.requires.n; entry = open_in u m; fits = c.requires.fits })
+    (rw (← c.decreases) (in_fewer u m), record { n = c.requires.n; h = c.requires.h; entry = open_in u m; fits = c.requires.fits })
 
 pub unpack_bwd-bounds-g-k-2 : goal.unpack_bwd-bounds-g-k-2
 unfolding table
@@ -53,7 +53,7 @@ unpack_bwd-unpack_fwd-then-requires t c =
     let u = c.requires.entry in
     let m = c.if-a.false in
     let p = c.unpack_bwd-first.ensures.put (open_in u m) in
-    (rw (← c.decreases) (out_fewer u m), record { n = c.requires.n; entry = open_out u m; fits = rest_fits p c.requires.fits })
+    (rw (← c.decreases) (out_fewer u m), record { n = c.requires.n; h = c.requires.h; entry = open_out u m; fits = rest_fits p c.requires.fits })
 
 pub unpack_bwd-overflow_add-result : goal.unpack_bwd-overflow_add-result
 unfolding table
@@ -95,7 +95,7 @@ unfolding table
 unpack_fwd-unpack_bwd-first-requires t c =
     let u = c.requires.entry in
     let m = c.if-a.false in
-    (rw (← c.decreases) (in_fewer u m), record { n = c.requires.n; entry = open_in u m; fits = c.requires.fits })
+    (rw (← c.decreases) (in_fewer u m), record { n = c.requires.n; h = c.requires.h; entry = open_in u m; fits = c.requires.fits })
 
 pub unpack_fwd-bounds-g-k-2 : goal.unpack_fwd-bounds-g-k-2
 unfolding table
@@ -117,7 +117,7 @@ unpack_fwd-unpack_fwd-then-requires t c =
     let u = c.requires.entry in
     let m = c.if-a.false in
     let p = c.unpack_bwd-first.ensures.put (open_in u m) in
-    (rw (← c.decreases) (out_fewer u m), record { n = c.requires.n; entry = open_out u m; fits = rest_fits p c.requires.fits })
+    (rw (← c.decreases) (out_fewer u m), record { n = c.requires.n; h = c.requires.h; entry = open_out u m; fits = rest_fits p c.requires.fits })
 
 pub unpack_fwd-overflow_add-result : goal.unpack_fwd-overflow_add-result
 unfolding table
