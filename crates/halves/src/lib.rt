@@ -60,7 +60,7 @@ impl Half<'_> {
         self.len = 0;
     }
 
-    // The label of v; the marks where it has none.
+    // The label of v; document 01's marks where it has none, so that an offer needs no case of its own.
     pub fn load(&self, v: usize) -> Label
         requires { 4 * (v + 1) ≤ length self.now.labels.now }
         ensures { of result ≡ seen self.now.labels.now self.now.base v }

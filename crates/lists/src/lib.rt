@@ -4,7 +4,8 @@
 // the next in its head's list, and the next among the freed; its weight is `weights[i]`. A node v has four numbers of `nodes`, from
 // 4 * v on: first and last of its out list, first and last of its in list. INVALID ends a list.
 //
-// Out list and in list are sides 0 and 1 of one layout, so each step is written once for both.
+// Out list and in list are sides 0 and 1 of one layout, so each step is written once for both. A side is a number, since places are
+// counted with it.
 #![tactic(auto)]
 
 ghost use Rattle.std.specs.Prelude.{◌≡◌, List, ℕ, ◌+◌, ◌*◌, ◌-◌, ◌<◌, ◌≤◌, eqb, length, set};

@@ -1,4 +1,5 @@
-// The walk through a meeting node: up the labels of either side, each entry opened on the way.
+// The walk through a meeting node: up the labels of either side, each entry opened on the way. The two halves are mirror images, one
+// with its chain in front and the other behind, and share no more than a step up.
 #![tactic(auto)]
 
 ghost use Rattle.std.specs.Prelude.{[], ◌∷◌, ◌≡◌};

@@ -29,7 +29,7 @@ fn put_word(out: &mut [u8], at: usize, word: &[u8]) -> usize
     end
 }
 
-// The last digit is the remainder by ten.
+// The last digit is the remainder by ten. By hand, since no formatter of the library stops at the room and counts on.
 fn put_decimal(out: &mut [u8], at: usize, n: u64) -> usize
     requires { Fits «at» (decimal n) }
     ensures { Wrote out.old «at» (decimal n) result out.new }

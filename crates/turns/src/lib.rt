@@ -12,7 +12,8 @@ use halves::Half;
 use rules::WEIGHT_MAX;
 use tables::{Sided, Table};
 
-// The best sum so far and its meeting node; the marks where there is none.
+// The best sum so far and its meeting node; the marks where there is none, as document 01 has it: any sum is then smaller, with no
+// case of its own.
 #[derive(Clone, Copy)]
 pub struct Best {
     pub sum: u64,
