@@ -186,3 +186,8 @@ module _ {n base : ℕ} {labels : List ℕ} where
         weight = λ v h. sym (label_missing labels (base + 2) v (omega (arith, s.below v h)));
         done = λ v h. sym (le-ltb (base + 2) (stamp labels v) (omega (arith, s.below v h)));
       }
+
+-- no place comes or goes
+pub put_label_long : (labels : List ℕ) (base v weight : ℕ) → length (put_label labels base v weight) ≡ length labels
+unfolding put_label
+put_label_long labels base v weight = simp length-set refl

@@ -181,3 +181,14 @@ pub record Kept (s s' : WitnessSearch) : Type 0 where
 pub record SameStart (r r' : Round) : Type 0 where
   pub base : r'.base ≡ r.base
   pub avoid : r'.avoid ≡ r.avoid
+
+-- .. and so many nodes were settled
+pub record SameRound (r r' : Round) : Type 0 where
+  pub base : r'.base ≡ r.base
+  pub avoid : r'.avoid ≡ r.avoid
+  pub settled : r'.settled ≡ r.settled
+
+-- nothing but labels changes
+pub record OnlyLabels (s s' : WitnessSearch) : Type 0 where
+  pub heap : s'.heap.now ≡ s.heap.now
+  pub round : s'.round ≡ s.round

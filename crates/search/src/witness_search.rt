@@ -6,7 +6,7 @@
 ghost use Rattle.std.specs.Prelude.{false, ◌||◌, ◌≡◌, ℕ, ◌+◌, ◌*◌, ◌≤◌, eqb, leb, length};
 ghost use Rattle.search.specs.Labels.{label_at, settled_at, put_label, Stamped};
 ghost use Rattle.search.specs.Searching.{lent};
-ghost use Rattle.search.specs.Promises.{Some, Offering, Offered, Crossed, Relaxing, Relaxes, Settling, Settles, Asked, Taking, Takes, Turns, Runs, Asks, Finds, Starting, Starts, found, progress, SameStart, Kept};
+ghost use Rattle.search.specs.Promises.{Some, Offering, Offered, Crossed, Relaxing, Relaxes, Settling, Settles, Asked, Taking, Takes, Turns, Runs, Asks, Finds, Starting, Starts, found, progress, SameStart, SameRound, OnlyLabels, Kept};
 
 use graph::preparation_graph::PreparationGraph;
 use rules::{INVALID, WEIGHT_MAX};
@@ -28,154 +28,6 @@ pub struct Round {
     pub avoid: u32,
 }
 
-// The label of v; the no-weight mark where it has none.
-fn get_current_weight(labels: &[u64], base: u64, v: usize) -> u64
-    requires { 2 * (v + 1) ≤ length labels.now }
-    ensures { result ≡ label_at labels.now base v }
-{
-    if base <= labels[2 * v + 1] {
-        labels[2 * v]
-    } else {
-        WEIGHT_MAX
-    }
-}
-
-fn is_settled(labels: &[u64], base: u64, v: usize) -> bool
-    requires { 2 * (v + 1) ≤ length labels.now }
-    ensures { result ≡ settled_at labels.now base v }
-{
-    base < labels[2 * v + 1]
-}
-
-// A settled node stays settled: only a stamp of an earlier search changes. It is stored either way, so that no branch is guessed.
-fn update_node(labels: &mut [u64], base: u64, v: usize, weight: u64)
-    requires { 2 * (v + 1) ≤ length labels.old }
-    ensures { labels.new ≡ put_label labels.old base v weight }
-{
-    let mut stamp = labels[2 * v + 1];
-    let earlier = stamp < base;
-    if earlier {
-        stamp = base;
-    }
-    labels[2 * v] = weight;
-    labels[2 * v + 1] = stamp;
-}
-
-// Labels only fall. Returns how many entries the heap then has.
-fn offer(
-    labels: &mut [u64],
-    heap: &mut [u64],
-    base: u64,
-    len: usize,
-    v: usize,
-    weight: u64,
-) -> usize
-    requires { Offering labels.old heap.old len v }
-    ensures { Offered labels.old heap.old labels.new heap.new base len result v weight }
-{
-    if weight < get_current_weight(labels, base, v) {
-        update_node(labels, base, v, weight);
-        heap::push(heap, len, weight, v as u64);
-        return len + 1;
-    }
-    len
-}
-
-// One arc: nothing is offered to the avoided node.
-fn relax_arc(
-    labels: &mut [u64],
-    heap: &mut [u64],
-    base: u64,
-    avoid: u32,
-    len: usize,
-    head: u32,
-    weight: u64,
-) -> usize
-    requires { Offering labels.old heap.old len head }
-    ensures { Crossed labels.old heap.old labels.new heap.new base avoid len result head weight }
-{
-    let avoided = head == avoid;
-    if avoided {
-        return len;
-    }
-    offer(labels, heap, base, len, head as usize, weight)
-}
-
-// The arcs of the chain from `first` on, which leave a node that left the heap with `weight`. The next place is read first, so that
-// it is at hand when the arc is done.
-fn relax(
-    arcs: &[u32],
-    weights: &[u64],
-    labels: &mut [u64],
-    heap: &mut [u64],
-    base: u64,
-    avoid: u32,
-    len: usize,
-    first: u32,
-    weight: u64,
-) -> usize
-    requires { Some (Relaxing arcs.now weights.now labels.old heap.old base len first weight) }
-    ensures { Relaxes arcs.now weights.now labels.old heap.old labels.new heap.new base avoid len result first weight }
-{
-    let mut len = len;
-    let mut place = first;
-    while place != INVALID {
-        let i = place as usize;
-        place = arcs[6 * i + 3];
-        len = relax_arc(
-            labels,
-            heap,
-            base,
-            avoid,
-            len,
-            arcs[6 * i + 1],
-            weight + weights[i],
-        );
-    }
-    len
-}
-
-// A whole node. That it is settled is no matter to its arcs, so it is marked first.
-fn settle(
-    arcs: &[u32],
-    weights: &[u64],
-    nodes: &[u32],
-    labels: &mut [u64],
-    heap: &mut [u64],
-    base: u64,
-    avoid: u32,
-    len: usize,
-    v: usize,
-    weight: u64,
-) -> usize
-    requires { Some (Settling (lent arcs.now weights.now nodes.now labels.old heap.old) base len v weight) }
-    ensures { Settles (lent arcs.now weights.now nodes.now labels.old heap.old) labels.new heap.new base avoid len result v weight }
-{
-    labels[2 * v + 1] = base + 1;
-    relax(
-        arcs,
-        weights,
-        labels,
-        heap,
-        base,
-        avoid,
-        len,
-        nodes[4 * v],
-        weight,
-    )
-}
-
-// Whether the search stops after v: the target was labelled within the limit, or is v.
-fn reached(labels: &[u64], base: u64, v: usize, target: usize, weight_limit: u64) -> bool
-    requires { 2 * (target + 1) ≤ length labels.now }
-    ensures { result ≡ (leb (label_at labels.now base target) weight_limit || eqb v target) }
-{
-    if get_current_weight(labels, base, target) <= weight_limit {
-        return true;
-    }
-    v == target
-}
-
 fn clear_labels(labels: &mut [u64], num_nodes: usize)
     requires { 2 * num_nodes ≤ length labels.old }
     ensures { Stamped num_nodes labels.new 0 }
@@ -185,7 +37,107 @@ fn clear_labels(labels: &mut [u64], num_nodes: usize)
     }
 }
 
-impl<'a> WitnessSearch<'a> {
+impl WitnessSearch<'_> {
+    // The label of v; the no-weight mark where it has none.
+    fn get_current_weight(&self, v: usize) -> u64
+        requires { 2 * (v + 1) ≤ length self.now.labels.now }
+        ensures { result ≡ label_at self.now.labels.now self.now.round.base v }
+    {
+        if self.round.base <= self.labels[2 * v + 1] {
+            self.labels[2 * v]
+        } else {
+            WEIGHT_MAX
+        }
+    }
+
+    fn is_settled(&self, v: usize) -> bool
+        requires { 2 * (v + 1) ≤ length self.now.labels.now }
+        ensures { result ≡ settled_at self.now.labels.now self.now.round.base v }
+    {
+        self.round.base < self.labels[2 * v + 1]
+    }
+
+    // A settled node stays settled: only a stamp of an earlier search changes. It is stored either way, so that no branch is guessed.
+    fn update_node(&mut self, v: usize, weight: u64)
+        requires { 2 * (v + 1) ≤ length self.old.labels.now }
+        ensures label { self.new.labels.now ≡ put_label self.old.labels.now self.old.round.base v weight }
+        ensures rest { OnlyLabels self.old self.new }
+    {
+        let mut stamp = self.labels[2 * v + 1];
+        let earlier = stamp < self.round.base;
+        if earlier {
+            stamp = self.round.base;
+        }
+        self.labels[2 * v] = weight;
+        self.labels[2 * v + 1] = stamp;
+    }
+
+    // Labels only fall.
+    fn offer(&mut self, v: usize, weight: u64)
+        requires { Offering self.old.labels.now self.old.heap.now self.old.round.len v }
+        ensures offered { Offered self.old.labels.now self.old.heap.now self.new.labels.now self.new.heap.now self.old.round.base self.old.round.len self.new.round.len v weight }
+        ensures round { SameRound self.old.round self.new.round }
+        ensures kept { Kept self.old self.new }
+    {
+        if weight < self.get_current_weight(v) {
+            self.update_node(v, weight);
+            heap::push(self.heap, self.round.len, weight, v as u64);
+            self.round.len += 1;
+        }
+    }
+
+    // One arc: nothing is offered to the avoided node.
+    fn relax_arc(&mut self, head: u32, weight: u64)
+        requires { Offering self.old.labels.now self.old.heap.now self.old.round.len head }
+        ensures crossed { Crossed self.old.labels.now self.old.heap.now self.new.labels.now self.new.heap.now self.old.round.base self.old.round.avoid self.old.round.len self.new.round.len head weight }
+        ensures round { SameRound self.old.round self.new.round }
+        ensures kept { Kept self.old self.new }
+    {
+        let avoided = head == self.round.avoid;
+        if avoided {
+            return;
+        }
+        self.offer(head as usize, weight);
+    }
+
+    // The arcs of the chain from `first` on, which leave a node that left the heap with `weight`. The next place is read first, so that
+    // it is at hand when the arc is done.
+    fn relax(&mut self, graph: &PreparationGraph, first: u32, weight: u64)
+        requires { Some (Relaxing graph.now.arcs.now graph.now.weights.now self.old.labels.now self.old.heap.now self.old.round.base self.old.round.len first weight) }
+        ensures relaxes { Relaxes graph.now.arcs.now graph.now.weights.now self.old.labels.now self.old.heap.now self.new.labels.now self.new.heap.now self.old.round.base self.old.round.avoid self.old.round.len self.new.round.len first weight }
+        ensures round { SameRound self.old.round self.new.round }
+        ensures kept { Kept self.old self.new }
+    {
+        let mut place = first;
+        while place != INVALID {
+            let i = place as usize;
+            place = graph.arcs[6 * i + 3];
+            self.relax_arc(graph.arcs[6 * i + 1], weight + graph.weights[i]);
+        }
+    }
+
+    // A whole node. That it is settled is no matter to its arcs, so it is marked first.
+    fn settle(&mut self, graph: &PreparationGraph, v: usize, weight: u64)
+        requires { Some (Settling (lent graph.now.arcs.now graph.now.weights.now graph.now.nodes.now self.old.labels.now self.old.heap.now) self.old.round.base self.old.round.len v weight) }
+        ensures settles { Settles (lent graph.now.arcs.now graph.now.weights.now graph.now.nodes.now self.old.labels.now self.old.heap.now) self.new.labels.now self.new.heap.now self.old.round.base self.old.round.avoid self.old.round.len self.new.round.len v weight }
+        ensures round { SameRound self.old.round self.new.round }
+        ensures kept { Kept self.old self.new }
+    {
+        self.labels[2 * v + 1] = self.round.base + 1;
+        self.relax(graph, graph.nodes[4 * v], weight);
+    }
+
+    // Whether the search stops after v: the target was labelled within the limit, or is v.
+    fn reached(&self, v: usize, target: usize, weight_limit: u64) -> bool
+        requires { 2 * (target + 1) ≤ length self.now.labels.now }
+        ensures { result ≡ (leb (label_at self.now.labels.now self.now.round.base target) weight_limit || eqb v target) }
+    {
+        if self.get_current_weight(target) <= weight_limit {
+            return true;
+        }
+        v == target
+    }
+
     // Before the first search labels may hold anything: their stamps are cleared, once.
     pub fn clear(&mut self, num_nodes: usize)
         requires { 2 * num_nodes ≤ length self.old.labels.now }
@@ -209,14 +161,15 @@ impl<'a> WitnessSearch<'a> {
         ensures kept { Kept self.old self.new }
     {
         let base = self.round.base + 2;
-        update_node(self.labels, base, start as usize, 0);
-        heap::push(self.heap, 0, 0, start as u64);
         self.round = Round {
             base,
-            len: 1,
+            len: 0,
             settled: 0,
             avoid,
         };
+        self.update_node(start as usize, 0);
+        heap::push(self.heap, 0, 0, start as u64);
+        self.round.len = 1;
     }
 
     // The first entry leaves. That of a settled node is passed over. Whether the search goes on.
@@ -227,39 +180,15 @@ impl<'a> WitnessSearch<'a> {
         ensures round { SameStart self.old.round self.new.round }
         ensures kept { Kept self.old self.new }
     {
-        let Round {
-            base,
-            len,
-            settled,
-            avoid,
-        } = self.round;
-        let labels = &mut *self.labels;
-        let heap = &mut *self.heap;
-        let top = heap::pop(heap, len);
+        let top = heap::pop(self.heap, self.round.len);
+        self.round.len -= 1;
         let v = top.node as usize;
-        if is_settled(labels, base, v) {
-            self.round.len = len - 1;
+        if self.is_settled(v) {
             return true;
         }
-        let left = settle(
-            graph.arcs,
-            graph.weights,
-            graph.nodes,
-            labels,
-            heap,
-            base,
-            avoid,
-            len - 1,
-            v,
-            top.weight,
-        );
-        self.round = Round {
-            base,
-            len: left,
-            settled: settled + 1,
-            avoid,
-        };
-        !reached(labels, base, v, target, weight_limit)
+        self.settle(graph, v, top.weight);
+        self.round.settled += 1;
+        !self.reached(v, target, weight_limit)
     }
 
     // One turn, and whether the search goes on. It stops, tested in this order, with its heap empty, its settled count at
@@ -330,17 +259,14 @@ impl<'a> WitnessSearch<'a> {
         ensures kept { Kept self.old self.new }
     {
         let v = target as usize;
-        let base = self.round.base;
-        let labels = &mut *self.labels;
-        let weight = get_current_weight(labels, base, v);
+        let weight = self.get_current_weight(v);
         if weight <= weight_limit {
             return weight;
         }
-        if is_settled(labels, base, v) {
+        if self.is_settled(v) {
             return weight;
         }
         self.run(graph, v, weight_limit, settled_nodes_limit);
-        let labels = &mut *self.labels;
-        get_current_weight(labels, base, v)
+        self.get_current_weight(v)
     }
 }

@@ -22,4 +22,4 @@ returns-clause-finds c =
     (answered_run c.args.self.now.round x _ (progress c.run.new.self.round false) c.get_current_weight-weight.ensures c.if-weight-weight_limit.false
     (sym c.is_settled.ensures ∙ c.if-is_settled.false)
     (ran.runs w s x)
-    c.get_current_weight.ensures)
+    (rw ran.round.base at c.get_current_weight.ensures))

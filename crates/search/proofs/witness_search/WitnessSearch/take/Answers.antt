@@ -14,8 +14,8 @@ is_settled-requires c =
 pub returns-then-is_settled-clause-takes : goal.returns-then-is_settled-clause-takes
 returns-then-is_settled-clause-takes c = λ w s x. taken_over x c.pop-top.ensures _ (sym c.is_settled.ensures ∙ c.if-is_settled.true)
 
-pub settle-left-requires : goal.settle-left-requires
-settle-left-requires c =
+pub settle-requires : goal.settle-requires
+settle-requires c =
     let r = c.requires in
     (r.0, with_heap _ r.1, taken_settling r.2 c.pop-top.ensures (sym c.is_settled.ensures ∙ c.if-is_settled.false))
 
@@ -23,6 +23,8 @@ pub returns-clause-takes : goal.returns-clause-takes
 returns-clause-takes c =
     let off = sym c.is_settled.ensures ∙ c.if-is_settled.false in
     let popped = c.pop-top.ensures in
+    let e = c.settle.ensures in
     λ w s x.
-    taken_settled x popped off _ (c.settle-left.ensures w (with_heap _ s) (taken_settling x popped off))
-    c.settle-left.auto.heap (ap not c.reached.ensures)
+    rw e.round.settled
+    (taken_settled x popped off _ (e.settles w (with_heap _ s) (taken_settling x popped off))
+    e.kept.heap (ap not (rw e.round.base at c.reached.ensures)))
