@@ -1,6 +1,6 @@
 // Many routes of one hierarchy: its tables are checked once and the labels cleared once, so that a pair costs what its search costs.
 //
-// l labels and h heap of either side.
+// Scratch: fl and bl are the labels of the forward and the backward side, fh and bh their heaps.
 #![tactic(auto)]
 
 ghost use Rattle.std.specs.Prelude.{[], ◌∷◌, ◌≡◌, ◌*◌, length, get_or};

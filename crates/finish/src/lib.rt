@@ -21,6 +21,7 @@ fn get_edge_id(starts: &[u32], neighbours: &[u32], r: u32, u: u32) -> u32
             return e;
         }
     }
+    // Starts may fall where no table rule was checked: then the rank is empty, and ends where it begins.
     end.max(begin)
 }
 

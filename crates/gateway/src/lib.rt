@@ -112,7 +112,8 @@ fn after_build(
     }
 }
 
-// Room for 32 nodes: 992 live arcs, and half as many entries a table.
+// Room for 32 nodes: 992 live arcs, and half as many entries a table. Columns: f of the forward table, b of the backward one; s starts,
+// b bases, m neighbours, w weights, i and o the two numbers.
 fn build_records(
     input: &[u8],
     at: usize,
@@ -210,10 +211,10 @@ fn at_limit(
     ensures { Limits input.now «at» n tails.now heads.now weights.now order.now out.old result out.new }
 {
     if 32 < n {
-        return refused_line(out, 0, 1);
+        return refused_line(out, 0, Refusal::Nodes.into());
     }
     if 256 < tails.len() {
-        return refused_line(out, 0, 2);
+        return refused_line(out, 0, Refusal::Links.into());
     }
     build_records(
         input,

@@ -159,6 +159,7 @@ impl<'a> PreparationGraph<'a> {
             Reduces n pool (memory self.old.arcs.now self.old.nodes.now) self.old.weights.now (memory self.new.arcs.now self.new.nodes.now)
             self.new.weights.now state x.stands.ids (arc tail head weight centre) g result }
         ensures state { self.new.state ≡ self.old.state }
+        ensures nodes { self.new.nodes.now ≡ self.old.nodes.now }
         ensures kept { Kept self.old self.new }
     {
         let arcs = &mut *self.arcs;

@@ -52,7 +52,7 @@ pub struct Half<'a> {
 }
 
 impl Half<'_> {
-    // A new search of a base of which no stamp is, its heap empty.
+    // Begins a search of this base, with an empty heap. That no stamp is of the base is asked where it is searched.
     pub fn start(&mut self, base: u64)
         ensures { Started self.old base self.new }
     {

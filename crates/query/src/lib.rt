@@ -1,6 +1,6 @@
 // The query: refusals, the search, and the walk handed back.
 //
-// l labels and h heap of either side.
+// Scratch: fl and bl are the labels of the forward and the backward side, fh and bh their heaps.
 #![tactic(auto)]
 
 ghost use Rattle.std.specs.Prelude.{[], ◌∷◌, ◌≡◌, ◌<◌, ◌≤◌, length, get_or};

@@ -1,5 +1,5 @@
--- What the functions ask and promise. Neither the graph nor the search is a value of the code, so a function asks that there are
--- some for which its slices stand, and promises its answer for each of them.
+-- What the functions ask and promise. What the definitions call a graph and a search is no value of the code, which has slices: a
+-- function asks that there are some for which its slices stand, and promises its answer for each of them.
 use Rattle.std.specs.Prelude.{Bool, List, [], map, ◌≡◌, ℕ, ◌+◌, ◌*◌, ◌^◌, ◌<◌, ◌≤◌, length, get_or}
 use Rattle.rules.specs.Numbers.{invalid, max_weight}
 use Rattle.rules.specs.Lists.{In}

@@ -249,7 +249,7 @@ fn passes(side: Side, v: &Sided<'_>, r: usize, e: Entry) -> bool
 
 // Whether the entries of rank r keep the rules, and no two lead to one neighbour. A node's mark is one more than the last rank
 // that led to it.
-fn rank_passes(side: Side, v: &Sided<'_>, r: usize, marks: &mut [u32; 1024]) -> bool
+fn rank_passes(side: Side, v: &Sided<'_>, r: usize, marks: &mut [u32; MAX_NODES]) -> bool
     requires { ShapedSided v.now × (r < v.now.num_nodes) × Earlier (r + 1) marks.old }
     ensures { Decides result (RankRules v.now.num_nodes (sided_of side v.now) (side_of side) r (get_or v.now.own.starts.now r 0) (get_or v.now.own.starts.now (r + 1) 0)) × Earlier (r + 1 + 1) marks.new }
 {
@@ -270,12 +270,12 @@ fn rank_passes(side: Side, v: &Sided<'_>, r: usize, marks: &mut [u32; 1024]) -> 
     true
 }
 
-// Whether the used entries of a table do, rank by rank. No table's marks are another's: an entry each way is a link both ways.
+// Whether the used entries of a table keep the rules, rank by rank. No table's marks are another's: an entry each way is a link both ways.
 fn entries_pass(side: Side, v: &Sided<'_>) -> bool
     requires { ShapedSided v.now }
     ensures { Decides result (EntriesRules v.now.num_nodes (sided_of side v.now) (side_of side)) }
 {
-    let mut marks = [0u32; 1024];
+    let mut marks = [0u32; MAX_NODES];
     for r in 0..v.num_nodes {
         if !rank_passes(side, v, r, &mut marks) {
             return false;
