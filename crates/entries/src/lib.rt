@@ -25,7 +25,8 @@ pub fn list_length(arcs: &[u32], side: usize, first: u32) -> usize
     count
 }
 
-// Writes the list of v on one side over the front of the columns. The list is a chain of places, so that its end is met and not counted. A centre waits in the column of the first numbers.
+// Writes the list of v on one side over the front of the columns. The list is a chain of places, so that its end is met and not
+// counted. A centre waits in the column of the first numbers.
 fn write_entries(
     arcs: &[u32],
     weights: &[u64],

@@ -14,7 +14,7 @@ pub struct Gathered {
     pub at: usize,
 }
 
-// The columns stay parameters of their own: two fields of a struct are not lent as `&mut` from behind one reference.
+// The columns stay parameters of their own: what is promised speaks of each of them as the caller lent it.
 fn put_link(
     input: &[u8],
     at: usize,

@@ -1,4 +1,4 @@
--- What the functions ask and promise. As in crates/search, graph and search are no values of the code: a function asks that there are
+-- What the functions ask and promise. As in crates/search, the graph and the search of document 01 are ghost values: a function asks that there are
 -- some for which its slices stand, and promises its answer for each of them. The graph has n nodes, and v is being contracted.
 use Rattle.std.specs.Prelude.{true, false, List, ◌≡◌, ℕ, ◌+◌, ◌*◌, ◌≤◌, ◌<◌, eqb, length, Result, Ok, Err}
 use Rattle.rules.specs.Numbers.{max_weight}

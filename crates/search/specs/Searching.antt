@@ -22,7 +22,7 @@ pub record Searching (n : ℕ) (labels heap : List ℕ) (base len : ℕ) (s : Se
   pub holds : Holds heap len s.heap
   pub nodes : (i : Item) → In i s.heap → Reached n labels base i.node
 
--- the graph, which is no value of the code
+-- the graph that the arcs, nodes and weights of the code stand for
 pub record World : Type 0 where
   pub n : ℕ
   pub pool : ℕ

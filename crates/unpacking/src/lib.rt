@@ -1,8 +1,9 @@
 // Unpacking: the nodes of the walk that an entry opens into.
 //
 // A forward entry opens into one backward and one forward entry, and so does a backward one, each of a node of lower rank: two
-// functions that call each other (document 01's form for this place). They write where there is room, as far as a limit, and return how many nodes there were: with no
-// room at all they count. So a walk is measured before anything is written, and no longer than it takes to pass the limit.
+// functions that call each other (document 01's form for this place). They write where there is room, as far as a limit, and
+// return how many nodes there were: with no room at all they count. So a walk is measured before anything is written, and no
+// longer than it takes to pass the limit.
 #![tactic(auto)]
 
 ghost use Rattle.rules.specs.Columns.{forward, backward};
