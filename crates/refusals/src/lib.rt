@@ -6,24 +6,23 @@ ghost use Rattle.rules.specs.Columns.{Hierarchy};
 ghost use Rattle.rules.specs.Refusals.{short, build_scratch};
 ghost use Rattle.rules.specs.Refused.{code};
 ghost use Rattle.input_graph.specs.Given.{links};
-ghost use Rattle.refusals.specs.Measures.{uneven_by, lent_short_by, Refuses};
+ghost use Rattle.refusals.specs.Measures.{lent_short_by, Refuses};
+ghost use Rattle.refusals.specs.Lent.{uneven_at};
 
+use marks::TableMut;
 use rules::Refusal;
 
-// Whether a table of these lengths has too few starts for n nodes, or columns of unequal length.
+// Whether a table has too few starts for n nodes, or columns of unequal length.
 #[tactic(auto, unfolding(crate::specs::Measures::uneven_by))]
-fn uneven(
-    n: usize,
-    starts: usize,
-    bases: usize,
-    neighbours: usize,
-    weights: usize,
-    ins: usize,
-    outs: usize,
-) -> bool
-    ensures { result ≡ uneven_by n starts bases neighbours weights ins outs }
+fn uneven(n: usize, table: &TableMut<'_>) -> bool
+    ensures { result ≡ uneven_at n table.now }
 {
-    starts <= n || neighbours != bases || weights != bases || ins != bases || outs != bases
+    let places = table.bases.len();
+    table.starts.len() <= n
+        || table.neighbours.len() != places
+        || table.weights.len() != places
+        || table.ins.len() != places
+        || table.outs.len() != places
 }
 
 // Whether scratch of these lengths is below its formulas. No length reaches six times a pool of 2^62, so that nothing wraps.
@@ -54,18 +53,8 @@ pub fn lent_short(
     n: usize,
     pool: u64,
     ranks: usize,
-    fwd_starts: usize,
-    fwd_bases: usize,
-    fwd_neighbours: usize,
-    fwd_weights: usize,
-    fwd_ins: usize,
-    fwd_outs: usize,
-    bwd_starts: usize,
-    bwd_bases: usize,
-    bwd_neighbours: usize,
-    bwd_weights: usize,
-    bwd_ins: usize,
-    bwd_outs: usize,
+    fwd: &TableMut<'_>,
+    bwd: &TableMut<'_>,
     arcs: usize,
     weights: usize,
     nodes: usize,
@@ -73,29 +62,9 @@ pub fn lent_short(
     heap: usize,
 ) -> bool
     requires { n ≤ 1024 }
-    ensures { result ≡ lent_short_by n pool ranks (uneven_by n fwd_starts fwd_bases fwd_neighbours fwd_weights fwd_ins fwd_outs)
-        (uneven_by n bwd_starts bwd_bases bwd_neighbours bwd_weights bwd_ins bwd_outs) (arcs ∷ weights ∷ nodes ∷ labels ∷ heap ∷ []) }
+    ensures { result ≡ lent_short_by n pool ranks (uneven_at n fwd.now) (uneven_at n bwd.now) (arcs ∷ weights ∷ nodes ∷ labels ∷ heap ∷ []) }
 {
-    ranks < n
-        || uneven(
-            n,
-            fwd_starts,
-            fwd_bases,
-            fwd_neighbours,
-            fwd_weights,
-            fwd_ins,
-            fwd_outs,
-        )
-        || uneven(
-            n,
-            bwd_starts,
-            bwd_bases,
-            bwd_neighbours,
-            bwd_weights,
-            bwd_ins,
-            bwd_outs,
-        )
-        || scratch_short(n, pool, arcs, weights, nodes, labels, heap)
+    ranks < n || uneven(n, fwd) || uneven(n, bwd) || scratch_short(n, pool, arcs, weights, nodes, labels, heap)
 }
 
 // The lowest of rows 1 to 8 that is met.

@@ -25,5 +25,5 @@ finish_table-requires c = let q = c.requires in (q.0, q.1, forward, finishing_fo
 pub finish_table-requires-2 : goal.finish_table-requires-2
 finish_table-requires-2 c = let q = c.requires in (q.0, q.1, backward, finishing_backward q.2 c.write_ranks.ensures)
 
-pub returns : goal.returns
-returns c = λ k b p. ended p c.write_ranks.ensures c.finish_table.ensures c.finish_table-2.ensures
+pub returns-clause-ends : goal.returns-clause-ends
+returns-clause-ends c = λ k b p. ended p c.write_ranks.ensures c.finish_table.ensures c.finish_table-2.ensures
