@@ -6,8 +6,9 @@ ghost use Rattle.rules.specs.Graph.{Arc};
 ghost use Rattle.rules.specs.Build.{Level};
 ghost use Rattle.lists.specs.Memory.{memory};
 ghost use Rattle.lists.specs.Walks.{Walk, Reads};
-ghost use Rattle.marks.specs.Lent.{table_at, KeptColumns};
+ghost use Rattle.marks.specs.Lent.{table_at};
 ghost use Rattle.entries.specs.Laid.{four, part_of};
+ghost use Rattle.entries.specs.Lent.{KeptOuts};
 ghost use Rattle.entries.specs.Promises.{Writable, Writes, Layable, Lays};
 
 use marks::TableMut;
@@ -72,8 +73,7 @@ pub fn lay_rank(
     requires { (nodes : List ℕ) × (list : List Arc) × Layable (memory arcs.now nodes) weights.now side first list r at
         (part_of (table_at table.old)) }
     ensures lays { Lays arcs.now weights.now side first v r at (part_of (table_at table.old)) (part_of (table_at table.new)) }
-    ensures kept { KeptColumns table.old table.new }
-    ensures outs { table.new.outs.now ≡ table.old.outs.now }
+    ensures kept { KeptOuts table.old table.new }
 {
     table.starts[r] = at as u32;
     write_entries(

@@ -126,28 +126,38 @@ pub fn finish_contraction(
     write_ranks(order, ranks);
     fwd.starts[n] = fwd_count as u32;
     bwd.starts[n] = bwd_count as u32;
+    let fwd_starts = &mut *fwd.starts;
+    let fwd_bases = &mut *fwd.bases;
+    let fwd_neighbours = &mut *fwd.neighbours;
+    let bwd_starts = &mut *bwd.starts;
+    let bwd_bases = &mut *bwd.bases;
+    let bwd_neighbours = &mut *bwd.neighbours;
+    let fwd_ins = &mut *fwd.ins;
+    let fwd_outs = &mut *fwd.outs;
+    let bwd_ins = &mut *bwd.ins;
+    let bwd_outs = &mut *bwd.outs;
     finish_table(
         fwd_count,
         ranks,
-        fwd.starts,
-        fwd.neighbours,
-        bwd.starts,
-        bwd.neighbours,
-        fwd.bases,
-        fwd.neighbours,
-        fwd.ins,
-        fwd.outs,
+        fwd_starts,
+        fwd_neighbours,
+        bwd_starts,
+        bwd_neighbours,
+        fwd_bases,
+        fwd_neighbours,
+        fwd_ins,
+        fwd_outs,
     );
     finish_table(
         bwd_count,
         ranks,
-        fwd.starts,
-        fwd.neighbours,
-        bwd.starts,
-        bwd.neighbours,
-        bwd.neighbours,
-        bwd.bases,
-        bwd.ins,
-        bwd.outs,
+        fwd_starts,
+        fwd_neighbours,
+        bwd_starts,
+        bwd_neighbours,
+        bwd_neighbours,
+        bwd_bases,
+        bwd_ins,
+        bwd_outs,
     );
 }
