@@ -68,5 +68,5 @@ build_checked-requires c =
 pub returns : goal.returns
 returns c =
     let s = (goal.at.returns c).Start in
-    c.build_checked.ensures
+    c.build_checked.ensures.runs
     ∙ let_in_built (asked s) (passed s c.in_ok-refusal.ensures (row_nine s c.lent_short.ensures ∙ c.if-lent_short.false))
