@@ -63,26 +63,8 @@ fn rank_step(
     if bwd.bases.len() - ranked.bwd < more_bwd {
         return Err(Refusal::Entries);
     }
-    lay_rank(
-        arcs,
-        weights,
-        0,
-        first_out,
-        v,
-        r,
-        ranked.fwd,
-        fwd,
-    );
-    lay_rank(
-        arcs,
-        weights,
-        1,
-        first_in,
-        v,
-        r,
-        ranked.bwd,
-        bwd,
-    );
+    lay_rank(arcs, weights, 0, first_out, v, r, ranked.fwd, fwd);
+    lay_rank(arcs, weights, 1, first_in, v, r, ranked.bwd, bwd);
     contract_node(graph, search, v, limit)?;
     Ok(Ranked {
         fwd: ranked.fwd + more_fwd,
@@ -114,16 +96,7 @@ fn run_contraction_with_order(
 {
     let mut ranked = Ranked { fwd: 0, bwd: 0 };
     for (r, v) in order.iter().enumerate() {
-        ranked = rank_step(
-            graph,
-            search,
-            limit,
-            r,
-            *v,
-            ranked,
-            fwd,
-            bwd,
-        )?;
+        ranked = rank_step(graph, search, limit, r, *v, ranked, fwd, bwd)?;
     }
     Ok(ranked)
 }
@@ -156,12 +129,5 @@ pub fn contraction(
 {
     graph.from_input_graph(n, tails, heads, link_weights)?;
     search.clear(n);
-    run_contraction_with_order(
-        graph,
-        search,
-        limit,
-        order,
-        fwd,
-        bwd,
-    )
+    run_contraction_with_order(graph, search, limit, order, fwd, bwd)
 }

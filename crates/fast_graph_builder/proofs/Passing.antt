@@ -12,7 +12,7 @@ use lib.ListN.{length, replicate}
 use borrow.Author.Tests.{ltb-false}
 use Rattle.rules.specs.Numbers.{invalid, no_weight}
 use Rattle.rules.specs.Lists.{filled}
-use Rattle.rules.specs.Columns.{Links, Hierarchy, Table, marked_table, marked, equally_long, room}
+use Rattle.rules.specs.Columns.{Links, Hierarchy, marked_table, marked, equally_long, room}
 use Rattle.rules.specs.Refusals.{Row, row, first_met, short, build_scratch, BuildCall, graph_rows, order_rows, graph_refusal, table_short, lent_short, build_refusal}
 use Rattle.rules.specs.Build.{Step, went, refused, Building, finish_contraction, built, unless_refused, build, contraction}
 use Rattle.rules.proofs.Rows.{not_met}

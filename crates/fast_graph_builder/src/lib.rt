@@ -56,23 +56,11 @@ fn close(
 {
     match ranked {
         Ok(ranked) => {
-            finish::finish_contraction(
-                n,
-                order,
-                ranked.fwd,
-                ranked.bwd,
-                ranks,
-                fwd,
-                bwd,
-            );
+            finish::finish_contraction(n, order, ranked.fwd, ranked.bwd, ranks, fwd, bwd);
             Ok(())
         }
         Err(refusal) => {
-            marks::mark_all(
-                ranks,
-                fwd,
-                bwd,
-            );
+            marks::mark_all(ranks, fwd, bwd);
             Err(refusal)
         }
     }
@@ -140,14 +128,7 @@ fn build_checked(
         fwd,
         bwd,
     );
-    close(
-        n,
-        order,
-        ranked,
-        ranks,
-        fwd,
-        bwd,
-    )
+    close(n, order, ranked, ranks, fwd, bwd)
 }
 
 // Builds a hierarchy in the given order. Whatever is handed in, the answer is a refusal, or a hierarchy.

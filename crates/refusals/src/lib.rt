@@ -64,7 +64,10 @@ pub fn lent_short(
     requires { n ≤ 1024 }
     ensures { result ≡ lent_short_by n pool ranks (uneven_at n fwd.now) (uneven_at n bwd.now) (arcs ∷ weights ∷ nodes ∷ labels ∷ heap ∷ []) }
 {
-    ranks < n || uneven(n, fwd) || uneven(n, bwd) || scratch_short(n, pool, arcs, weights, nodes, labels, heap)
+    ranks < n
+        || uneven(n, fwd)
+        || uneven(n, bwd)
+        || scratch_short(n, pool, arcs, weights, nodes, labels, heap)
 }
 
 // The lowest of rows 1 to 8 that is met.
