@@ -16,6 +16,7 @@ ghost use Rattle.fast_graph_builder.specs.Promises.{answer, run, lengths, Inside
 use contraction::Ranked;
 use graph::preparation_graph::{Pool, PreparationGraph};
 use marks::TableMut;
+use refusals::Lengths;
 use rules::{INVALID, Refusal};
 use search::witness_search::{Round, WitnessSearch};
 
@@ -188,8 +189,8 @@ pub fn build_with_order(
         n,
         pool,
         ranks.len(),
-        &fwd,
-        &bwd,
+        Lengths::of(&fwd),
+        Lengths::of(&bwd),
         arcs.len(),
         weights.len(),
         nodes.len(),

@@ -1,8 +1,19 @@
--- The same of a table's columns as they are lent.
+-- The same of a table's columns, by their lengths.
 use Rattle.std.specs.Prelude.{Bool, ℕ, length}
 use Rattle.marks.specs.declared.TableMut.{TableMut}
+use Rattle.refusals.specs.declared.Lengths.{Lengths}
 use Rattle.refusals.specs.Measures.{uneven_by}
 
-abbrev pub uneven_at : ℕ → TableMut → Bool
-uneven_at n x =
-    uneven_by n (length x.starts.now) (length x.bases.now) (length x.neighbours.now) (length x.weights.now) (length x.ins.now) (length x.outs.now)
+abbrev pub lengths_at : TableMut → Lengths
+lengths_at x =
+    record {
+      starts = length x.starts.now;
+      bases = length x.bases.now;
+      neighbours = length x.neighbours.now;
+      weights = length x.weights.now;
+      ins = length x.ins.now;
+      outs = length x.outs.now;
+    }
+
+abbrev pub uneven_in : ℕ → Lengths → Bool
+uneven_in n l = uneven_by n l.starts l.bases l.neighbours l.weights l.ins l.outs
