@@ -1,3 +1,4 @@
 -- What the proofs share.
 pub mod Writing
 pub mod Laying
+pub mod Keeping

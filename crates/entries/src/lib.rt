@@ -6,9 +6,12 @@ ghost use Rattle.rules.specs.Graph.{Arc};
 ghost use Rattle.rules.specs.Build.{Level};
 ghost use Rattle.lists.specs.Memory.{memory};
 ghost use Rattle.lists.specs.Walks.{Walk, Reads};
-ghost use Rattle.entries.specs.Laid.{four, part};
+ghost use Rattle.marks.specs.Lent.{table_at};
+ghost use Rattle.entries.specs.Laid.{four, part_of};
+ghost use Rattle.entries.specs.Lent.{KeptOuts};
 ghost use Rattle.entries.specs.Promises.{Writable, Writes, Layable, Lays};
 
+use marks::TableMut;
 use rules::INVALID;
 
 // How many arcs a list has from a place on.
@@ -66,28 +69,23 @@ pub fn lay_rank(
     v: u32,
     r: usize,
     at: usize,
-    starts: &mut [u32],
-    bases: &mut [u32],
-    neighbours: &mut [u32],
-    entry_weights: &mut [u64],
-    centres: &mut [u32],
+    table: &mut TableMut<'_>,
 )
     requires { (nodes : List ℕ) × (list : List Arc) × Layable (memory arcs.now nodes) weights.now side first list r at
-        (part starts.old (four bases.old neighbours.old entry_weights.old centres.old)) }
-    ensures { Lays arcs.now weights.now side first v r at
-        (part starts.old (four bases.old neighbours.old entry_weights.old centres.old))
-        (part starts.new (four bases.new neighbours.new entry_weights.new centres.new)) }
+        (part_of (table_at table.old)) }
+    ensures lays { Lays arcs.now weights.now side first v r at (part_of (table_at table.old)) (part_of (table_at table.new)) }
+    ensures kept { KeptOuts table.old table.new }
 {
-    starts[r] = at as u32;
+    table.starts[r] = at as u32;
     write_entries(
         arcs,
         weights,
         side,
         first,
         v,
-        &mut bases[at..],
-        &mut neighbours[at..],
-        &mut entry_weights[at..],
-        &mut centres[at..],
+        &mut table.bases[at..],
+        &mut table.neighbours[at..],
+        &mut table.weights[at..],
+        &mut table.ins[at..],
     );
 }

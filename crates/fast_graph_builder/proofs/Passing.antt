@@ -12,7 +12,7 @@ use lib.ListN.{length, replicate}
 use borrow.Author.Tests.{ltb-false}
 use Rattle.rules.specs.Numbers.{invalid, no_weight}
 use Rattle.rules.specs.Lists.{filled}
-use Rattle.rules.specs.Columns.{Links, Hierarchy, Table, marked_table, marked, equally_long, room}
+use Rattle.rules.specs.Columns.{Links, Hierarchy, marked_table, marked, equally_long, room}
 use Rattle.rules.specs.Refusals.{Row, row, first_met, short, build_scratch, BuildCall, graph_rows, order_rows, graph_refusal, table_short, lent_short, build_refusal}
 use Rattle.rules.specs.Build.{Step, went, refused, Building, finish_contraction, built, unless_refused, build, contraction}
 use Rattle.rules.proofs.Rows.{not_met}
@@ -27,8 +27,11 @@ use Rattle.rules.specs.declared.Refusal.{Refusal}
 use Rattle.search.specs.Searching.{Lent}
 use Rattle.marks.specs.Tables.{table_of, hierarchy}
 use Rattle.contraction.specs.Ranks.{Stage}
-use Rattle.entries.specs.Laid.{part, four}
-use Rattle.contraction.specs.Ranks.{Given, given, call, parts, parts_of}
+use Rattle.marks.specs.declared.TableMut.{TableMut}
+use Rattle.marks.specs.Lent.{table_at, KeptColumns}
+use Rattle.entries.specs.Lent.{KeptOuts}
+use Rattle.contraction.specs.Ranks.{Given, given, call, parts_of}
+use Rattle.contraction.specs.Lent.{parts_at}
 use Rattle.contraction.specs.Promises.{Accepted, Came, Accepting}
 use Rattle.refusals.specs.Measures.{uneven_by, lent_short_by, order_test}
 use Rattle.refusals.proofs.Tests.{later, first_earlier}
@@ -159,14 +162,12 @@ other_pool p k =
     }
 
 -- as long, so marked alike
-pub table_alike : (t t' : Table) → length t'.starts ≡ length t.starts → length t'.bases ≡ length t.bases → length t'.neighbours ≡ length t.neighbours →
-    length t'.weights ≡ length t.weights → length t'.in_numbers ≡ length t.in_numbers → length t'.out_numbers ≡ length t.out_numbers →
-    marked_table t' ≡ marked_table t
+table_alike : {x y : TableMut} → KeptColumns x y → marked_table (table_at y) ≡ marked_table (table_at x)
 unfolding marked_table filled
-table_alike t t' s b n w i o =
+table_alike g =
     λ k.
-    table_of (replicate (s k) invalid) (replicate (b k) invalid) (replicate (n k) invalid) (replicate (w k) no_weight) (replicate (i k) invalid)
-    (replicate (o k) invalid)
+    table_of (replicate (g.starts_long k) invalid) (replicate (g.bases_long k) invalid) (replicate (g.neighbours_long k) invalid)
+    (replicate (g.weights_long k) no_weight) (replicate (g.ins_long k) invalid) (replicate (g.outs_long k) invalid)
 
 -- n(n - 1) of at most 1,024 nodes
 pub most_arcs : (n : ℕ) → n ≤ 1024 → n * (n - 1) ≤ 1047552
@@ -252,20 +253,15 @@ module _ (m : Lent) {n : ℕ} {ts hs ws order : List ℕ} {limit pool : ℕ} {h 
           marks = λ i. hierarchy (filled invalid (ranks i)) (f i) (k i);
         }
 
--- the same, by columns
-module _ (m : Lent) {n : ℕ} {ts hs ws order : List ℕ} {limit pool : ℕ} {ranks fs fb fn fw fi fo bs bb bn bw bi bo : List ℕ}
-    (p : Passed (call (given_with n (links ts hs ws) order (hierarchy ranks (table_of fs fb fn fw fi fo) (table_of bs bb bn bw bi bo)) m) limit pool))
-    {r : ℕ} (x : Inside n pool r) {m' : Lent} {w : Result Stage Refusal} {fs' fb' fn' fw' fi' bs' bb' bn' bw' bi' : List ℕ}
-    (came : Came (call (given_with n (links ts hs ws) order (hierarchy ranks (table_of fs fb fn fw fi fo) (table_of bs bb bn bw bi bo)) m) limit r)
-    (contraction (call (given_with n (links ts hs ws) order (hierarchy ranks (table_of fs fb fn fw fi fo) (table_of bs bb bn bw bi bo)) m) limit r))
-    (parts (part fs' (four fb' fn' fw' fi')) (part bs' (four bb' bn' bw' bi'))) m' w)
-    (a : length fs' ≡ length fs) (b : length fb' ≡ length fb) (c : length fn' ≡ length fn) (d : length fw' ≡ length fw) (e : length fi' ≡ length fi)
-    (a' : length bs' ≡ length bs) (b' : length bb' ≡ length bb) (c' : length bn' ≡ length bn) (d' : length bw' ≡ length bw) (e' : length bi' ≡ length bi) where
+-- the same, by columns as they are lent
+module _ (m : Lent) {n : ℕ} {ts hs ws order : List ℕ} {limit pool : ℕ} {ranks : List ℕ} {f k f' k' : TableMut}
+    (p : Passed (call (given_with n (links ts hs ws) order (hierarchy ranks (table_at f) (table_at k)) m) limit pool))
+    {r : ℕ} (x : Inside n pool r) {m' : Lent} {w : Result Stage Refusal} (fwd : KeptOuts f f') (bwd : KeptOuts k k')
+    (came : Came (call (given_with n (links ts hs ws) order (hierarchy ranks (table_at f) (table_at k)) m) limit r)
+    (contraction (call (given_with n (links ts hs ws) order (hierarchy ranks (table_at f) (table_at k)) m) limit r)) (parts_at f' k') m' w) where
   pub closing_columns :
-      Closing (call (given_with n (links ts hs ws) order (hierarchy ranks (table_of fs fb fn fw fi fo) (table_of bs bb bn bw bi bo)) m) limit r)
-      (contraction (call (given_with n (links ts hs ws) order (hierarchy ranks (table_of fs fb fn fw fi fo) (table_of bs bb bn bw bi bo)) m) limit r)) m' n order w
-      (hierarchy ranks (table_of fs' fb' fn' fw' fi' fo) (table_of bs' bb' bn' bw' bi' bo))
+      Closing (call (given_with n (links ts hs ws) order (hierarchy ranks (table_at f) (table_at k)) m) limit r)
+      (contraction (call (given_with n (links ts hs ws) order (hierarchy ranks (table_at f) (table_at k)) m) limit r)) m' n order w
+      (hierarchy ranks (table_at f') (table_at k'))
   closing_columns =
-      closing m p x {h' = hierarchy ranks (table_of fs' fb' fn' fw' fi' fo) (table_of bs' bb' bn' bw' bi' bo)} came refl refl refl
-      (table_alike (table_of fs fb fn fw fi fo) (table_of fs' fb' fn' fw' fi' fo) a b c d e refl)
-      (table_alike (table_of bs bb bn bw bi bo) (table_of bs' bb' bn' bw' bi' bo) a' b' c' d' e' refl)
+      closing m p x {h' = hierarchy ranks (table_at f') (table_at k')} came refl fwd.outs bwd.outs (table_alike fwd.columns) (table_alike bwd.columns)

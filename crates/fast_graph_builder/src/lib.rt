@@ -8,12 +8,15 @@ ghost use Rattle.rules.specs.Refused.{code};
 ghost use Rattle.input_graph.specs.Given.{links};
 ghost use Rattle.search.specs.Searching.{Lent};
 ghost use Rattle.marks.specs.Tables.{table_of, hierarchy};
+ghost use Rattle.marks.specs.Lent.{table_at, KeptColumns};
 ghost use Rattle.node_contractor.specs.Work.{Work};
 ghost use Rattle.contraction.specs.Ranks.{given, call, staged};
 ghost use Rattle.fast_graph_builder.specs.Promises.{answer, run, lengths, Inside, Closing, Passed};
 
 use contraction::Ranked;
 use graph::preparation_graph::{Pool, PreparationGraph};
+use marks::TableMut;
+use refusals::Lengths;
 use rules::{INVALID, Refusal};
 use search::witness_search::{Round, WitnessSearch};
 
@@ -38,68 +41,27 @@ fn close(
     order: &[u32],
     ranked: Result<Ranked, Refusal>,
     ranks: &mut [u32],
-    fwd_starts: &mut [u32],
-    fwd_bases: &mut [u32],
-    fwd_neighbours: &mut [u32],
-    fwd_weights: &mut [u64],
-    fwd_ins: &mut [u32],
-    fwd_outs: &mut [u32],
-    bwd_starts: &mut [u32],
-    bwd_bases: &mut [u32],
-    bwd_neighbours: &mut [u32],
-    bwd_weights: &mut [u64],
-    bwd_ins: &mut [u32],
-    bwd_outs: &mut [u32],
+    fwd: &mut TableMut<'_>,
+    bwd: &mut TableMut<'_>,
 ) -> Result<(), Refusal>
     requires { (c : BuildCall) × (s : Step Building) × (m : Lent) × (w : Work) × Closing c s m n order.now (staged w ranked)
         (hierarchy ranks.old
-        (table_of fwd_starts.old fwd_bases.old fwd_neighbours.old fwd_weights.old fwd_ins.old fwd_outs.old)
-        (table_of bwd_starts.old bwd_bases.old bwd_neighbours.old bwd_weights.old bwd_ins.old bwd_outs.old)) }
-    ensures { (c : BuildCall) (s : Step Building) (m : Lent) (w : Work) → Closing c s m n order.now (staged w ranked)
+        (table_at fwd.old) (table_at bwd.old)) }
+    ensures closes { (c : BuildCall) (s : Step Building) (m : Lent) (w : Work) → Closing c s m n order.now (staged w ranked)
         (hierarchy ranks.old
-        (table_of fwd_starts.old fwd_bases.old fwd_neighbours.old fwd_weights.old fwd_ins.old fwd_outs.old)
-        (table_of bwd_starts.old bwd_bases.old bwd_neighbours.old bwd_weights.old bwd_ins.old bwd_outs.old)) →
+        (table_at fwd.old) (table_at bwd.old)) →
         answer (code result) (hierarchy ranks.new
-        (table_of fwd_starts.new fwd_bases.new fwd_neighbours.new fwd_weights.new fwd_ins.new fwd_outs.new)
-        (table_of bwd_starts.new bwd_bases.new bwd_neighbours.new bwd_weights.new bwd_ins.new bwd_outs.new)) ≡ built c s }
+        (table_at fwd.new) (table_at bwd.new)) ≡ built c s }
+    ensures fwd_kept { KeptColumns fwd.old fwd.new }
+    ensures bwd_kept { KeptColumns bwd.old bwd.new }
 {
     match ranked {
         Ok(ranked) => {
-            finish::finish_contraction(
-                n,
-                order,
-                ranked.fwd,
-                ranked.bwd,
-                ranks,
-                fwd_starts,
-                fwd_bases,
-                fwd_neighbours,
-                fwd_ins,
-                fwd_outs,
-                bwd_starts,
-                bwd_bases,
-                bwd_neighbours,
-                bwd_ins,
-                bwd_outs,
-            );
+            finish::finish_contraction(n, order, ranked.fwd, ranked.bwd, ranks, fwd, bwd);
             Ok(())
         }
         Err(refusal) => {
-            marks::mark_all(
-                ranks,
-                fwd_starts,
-                fwd_bases,
-                fwd_neighbours,
-                fwd_weights,
-                fwd_ins,
-                fwd_outs,
-                bwd_starts,
-                bwd_bases,
-                bwd_neighbours,
-                bwd_weights,
-                bwd_ins,
-                bwd_outs,
-            );
+            marks::mark_all(ranks, fwd, bwd);
             Err(refusal)
         }
     }
@@ -115,18 +77,8 @@ fn build_checked(
     limit: u32,
     pool: u64,
     ranks: &mut [u32],
-    fwd_starts: &mut [u32],
-    fwd_bases: &mut [u32],
-    fwd_neighbours: &mut [u32],
-    fwd_weights: &mut [u64],
-    fwd_ins: &mut [u32],
-    fwd_outs: &mut [u32],
-    bwd_starts: &mut [u32],
-    bwd_bases: &mut [u32],
-    bwd_neighbours: &mut [u32],
-    bwd_weights: &mut [u64],
-    bwd_ins: &mut [u32],
-    bwd_outs: &mut [u32],
+    fwd: &mut TableMut<'_>,
+    bwd: &mut TableMut<'_>,
     arcs: &mut [u32],
     weights: &mut [u64],
     nodes: &mut [u32],
@@ -134,16 +86,15 @@ fn build_checked(
     heap: &mut [u64],
 ) -> Result<(), Refusal>
     requires { Passed (call (given n (links tails.now heads.now link_weights.now) order.now (hierarchy ranks.old
-        (table_of fwd_starts.old fwd_bases.old fwd_neighbours.old fwd_weights.old fwd_ins.old fwd_outs.old)
-        (table_of bwd_starts.old bwd_bases.old bwd_neighbours.old bwd_weights.old bwd_ins.old bwd_outs.old))
+        (table_at fwd.old) (table_at bwd.old))
         (lengths arcs.old weights.old nodes.old labels.old heap.old)) limit pool) }
-    ensures { answer (code result) (hierarchy ranks.new
-        (table_of fwd_starts.new fwd_bases.new fwd_neighbours.new fwd_weights.new fwd_ins.new fwd_outs.new)
-        (table_of bwd_starts.new bwd_bases.new bwd_neighbours.new bwd_weights.new bwd_ins.new bwd_outs.new)) ≡
+    ensures runs { answer (code result) (hierarchy ranks.new
+        (table_at fwd.new) (table_at bwd.new)) ≡
         run (call (given n (links tails.now heads.now link_weights.now) order.now (hierarchy ranks.old
-        (table_of fwd_starts.old fwd_bases.old fwd_neighbours.old fwd_weights.old fwd_ins.old fwd_outs.old)
-        (table_of bwd_starts.old bwd_bases.old bwd_neighbours.old bwd_weights.old bwd_ins.old bwd_outs.old))
+        (table_at fwd.old) (table_at bwd.old))
         (lengths arcs.old weights.old nodes.old labels.old heap.old)) limit pool) }
+    ensures fwd_kept { KeptColumns fwd.old fwd.new }
+    ensures bwd_kept { KeptColumns bwd.old bwd.new }
 {
     let inside = pool_inside(n, pool);
     let mut graph = PreparationGraph {
@@ -175,35 +126,10 @@ fn build_checked(
         link_weights,
         order,
         limit,
-        fwd_starts,
-        fwd_bases,
-        fwd_neighbours,
-        fwd_weights,
-        fwd_ins,
-        bwd_starts,
-        bwd_bases,
-        bwd_neighbours,
-        bwd_weights,
-        bwd_ins,
+        fwd,
+        bwd,
     );
-    close(
-        n,
-        order,
-        ranked,
-        ranks,
-        fwd_starts,
-        fwd_bases,
-        fwd_neighbours,
-        fwd_weights,
-        fwd_ins,
-        fwd_outs,
-        bwd_starts,
-        bwd_bases,
-        bwd_neighbours,
-        bwd_weights,
-        bwd_ins,
-        bwd_outs,
-    )
+    close(n, order, ranked, ranks, fwd, bwd)
 }
 
 // Builds a hierarchy in the given order. Whatever is handed in, the answer is a refusal, or a hierarchy.
@@ -243,22 +169,28 @@ pub fn build_with_order(
         (lengths arcs.old weights.old nodes.old labels.old heap.old)) limit pool) }
 {
     refusals::refusal(n, tails, heads, link_weights, order)?;
+    let mut fwd = TableMut {
+        starts: fwd_starts,
+        bases: fwd_bases,
+        neighbours: fwd_neighbours,
+        weights: fwd_weights,
+        ins: fwd_ins,
+        outs: fwd_outs,
+    };
+    let mut bwd = TableMut {
+        starts: bwd_starts,
+        bases: bwd_bases,
+        neighbours: bwd_neighbours,
+        weights: bwd_weights,
+        ins: bwd_ins,
+        outs: bwd_outs,
+    };
     if refusals::lent_short(
         n,
         pool,
         ranks.len(),
-        fwd_starts.len(),
-        fwd_bases.len(),
-        fwd_neighbours.len(),
-        fwd_weights.len(),
-        fwd_ins.len(),
-        fwd_outs.len(),
-        bwd_starts.len(),
-        bwd_bases.len(),
-        bwd_neighbours.len(),
-        bwd_weights.len(),
-        bwd_ins.len(),
-        bwd_outs.len(),
+        Lengths::of(&fwd),
+        Lengths::of(&bwd),
         arcs.len(),
         weights.len(),
         nodes.len(),
@@ -276,18 +208,8 @@ pub fn build_with_order(
         limit,
         pool,
         ranks,
-        fwd_starts,
-        fwd_bases,
-        fwd_neighbours,
-        fwd_weights,
-        fwd_ins,
-        fwd_outs,
-        bwd_starts,
-        bwd_bases,
-        bwd_neighbours,
-        bwd_weights,
-        bwd_ins,
-        bwd_outs,
+        &mut fwd,
+        &mut bwd,
         arcs,
         weights,
         nodes,

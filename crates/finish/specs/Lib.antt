@@ -1,2 +1,3 @@
 -- What the functions ask and promise.
 pub mod Promises
+pub mod Lent

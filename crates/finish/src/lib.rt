@@ -5,8 +5,10 @@ ghost use Rattle.std.specs.Prelude.{List, ℕ, ◌+◌, ◌≤◌, ◌<◌, leng
 ghost use Rattle.rules.specs.Columns.{Side};
 ghost use Rattle.rules.specs.Refusals.{BuildCall};
 ghost use Rattle.rules.specs.Build.{Raw, Building};
-ghost use Rattle.finish.specs.Promises.{Seekable, Sought, Opening, Opens, Finishing, Finishes, Inverse, Ranks, Ending, Ended};
+ghost use Rattle.finish.specs.Promises.{Seekable, Sought, Opening, Opens, Finishing, Finishes, Inverse, Ranks};
+ghost use Rattle.finish.specs.Lent.{EndingAt, EndedAt, KeptEntries};
 
+use marks::TableMut;
 use rules::INVALID;
 
 // The first entry of a rank to, or from, u; where the rank ends if there is none.
@@ -106,38 +108,37 @@ fn write_ranks(order: &[u32], ranks: &mut [u32])
     }
 }
 
-// The order's inverse, the last starts, and both tables.
+// The order's inverse, the last starts, and both tables, of so many entries.
 pub fn finish_contraction(
     n: usize,
     order: &[u32],
-    fwd: usize,
-    bwd: usize,
+    fwd_count: usize,
+    bwd_count: usize,
     ranks: &mut [u32],
-    fwd_starts: &mut [u32],
-    fwd_bases: &[u32],
-    fwd_neighbours: &[u32],
-    fwd_ins: &mut [u32],
-    fwd_outs: &mut [u32],
-    bwd_starts: &mut [u32],
-    bwd_bases: &[u32],
-    bwd_neighbours: &[u32],
-    bwd_ins: &mut [u32],
-    bwd_outs: &mut [u32],
+    fwd: &mut TableMut<'_>,
+    bwd: &mut TableMut<'_>,
 )
-    requires { (c : BuildCall) × (b : Building) × Ending c b n order.now fwd bwd
-        ranks.old fwd_starts.old fwd_bases.now fwd_neighbours.now fwd_ins.old fwd_outs.old
-        bwd_starts.old bwd_bases.now bwd_neighbours.now bwd_ins.old bwd_outs.old }
-    ensures { (c : BuildCall) (b : Building) → Ending c b n order.now fwd bwd
-        ranks.old fwd_starts.old fwd_bases.now fwd_neighbours.now fwd_ins.old fwd_outs.old
-        bwd_starts.old bwd_bases.now bwd_neighbours.now bwd_ins.old bwd_outs.old →
-        Ended c b ranks.new fwd_starts.new fwd_ins.new fwd_outs.new
-        bwd_starts.new bwd_ins.new bwd_outs.new }
+    requires { (c : BuildCall) × (b : Building) × EndingAt c b n order.now fwd_count bwd_count ranks.old fwd.old bwd.old }
+    ensures ends { (c : BuildCall) (b : Building) → EndingAt c b n order.now fwd_count bwd_count ranks.old fwd.old bwd.old →
+        EndedAt c b ranks.new fwd.new bwd.new }
+    ensures fwd_kept { KeptEntries fwd.old fwd.new }
+    ensures bwd_kept { KeptEntries bwd.old bwd.new }
 {
     write_ranks(order, ranks);
-    fwd_starts[n] = fwd as u32;
-    bwd_starts[n] = bwd as u32;
+    fwd.starts[n] = fwd_count as u32;
+    bwd.starts[n] = bwd_count as u32;
+    let fwd_starts = &mut *fwd.starts;
+    let fwd_bases = &mut *fwd.bases;
+    let fwd_neighbours = &mut *fwd.neighbours;
+    let bwd_starts = &mut *bwd.starts;
+    let bwd_bases = &mut *bwd.bases;
+    let bwd_neighbours = &mut *bwd.neighbours;
+    let fwd_ins = &mut *fwd.ins;
+    let fwd_outs = &mut *fwd.outs;
+    let bwd_ins = &mut *bwd.ins;
+    let bwd_outs = &mut *bwd.outs;
     finish_table(
-        fwd,
+        fwd_count,
         ranks,
         fwd_starts,
         fwd_neighbours,
@@ -149,7 +150,7 @@ pub fn finish_contraction(
         fwd_outs,
     );
     finish_table(
-        bwd,
+        bwd_count,
         ranks,
         fwd_starts,
         fwd_neighbours,

@@ -1,2 +1,3 @@
 -- A hierarchy by its columns.
 pub mod Tables
+pub mod Lent

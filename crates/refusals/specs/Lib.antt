@@ -1,2 +1,3 @@
 -- What the tests decide.
 pub mod Measures
+pub mod Lent

@@ -6,24 +6,49 @@ ghost use Rattle.rules.specs.Columns.{Hierarchy};
 ghost use Rattle.rules.specs.Refusals.{short, build_scratch};
 ghost use Rattle.rules.specs.Refused.{code};
 ghost use Rattle.input_graph.specs.Given.{links};
-ghost use Rattle.refusals.specs.Measures.{uneven_by, lent_short_by, Refuses};
+ghost use Rattle.refusals.specs.Measures.{lent_short_by, Refuses};
+ghost use Rattle.refusals.specs.Lent.{lengths_at, uneven_in};
 
+use marks::TableMut;
 use rules::Refusal;
 
-// Whether a table of these lengths has too few starts for n nodes, or columns of unequal length.
-#[tactic(auto, unfolding(crate::specs::Measures::uneven_by))]
-fn uneven(
-    n: usize,
-    starts: usize,
-    bases: usize,
-    neighbours: usize,
-    weights: usize,
-    ins: usize,
-    outs: usize,
-) -> bool
-    ensures { result ≡ uneven_by n starts bases neighbours weights ins outs }
-{
-    starts <= n || neighbours != bases || weights != bases || ins != bases || outs != bases
+// How long a table's columns are.
+#[derive(Clone, Copy)]
+pub struct Lengths {
+    pub starts: usize,
+    pub bases: usize,
+    pub neighbours: usize,
+    pub weights: usize,
+    pub ins: usize,
+    pub outs: usize,
+}
+
+impl Lengths {
+    // Of columns as they are lent.
+    pub fn of(table: &TableMut<'_>) -> Lengths
+        ensures { result ≡ lengths_at table.now }
+    {
+        Lengths {
+            starts: table.starts.len(),
+            bases: table.bases.len(),
+            neighbours: table.neighbours.len(),
+            weights: table.weights.len(),
+            ins: table.ins.len(),
+            outs: table.outs.len(),
+        }
+    }
+
+    // Whether there are too few starts for n nodes, or the columns are unequal.
+    #[tactic(auto, unfolding(crate::specs::Measures::uneven_by))]
+    fn uneven(self, n: usize) -> bool
+        ensures { result ≡ uneven_in n self }
+    {
+        self.starts <= n
+            || self.neighbours != self.bases
+            || self.weights != self.bases
+            || self.ins != self.bases
+            || self.outs != self.bases
+    }
 }
 
 // Whether scratch of these lengths is below its formulas. No length reaches six times a pool of 2^62, so that nothing wraps.
@@ -54,18 +79,8 @@ pub fn lent_short(
     n: usize,
     pool: u64,
     ranks: usize,
-    fwd_starts: usize,
-    fwd_bases: usize,
-    fwd_neighbours: usize,
-    fwd_weights: usize,
-    fwd_ins: usize,
-    fwd_outs: usize,
-    bwd_starts: usize,
-    bwd_bases: usize,
-    bwd_neighbours: usize,
-    bwd_weights: usize,
-    bwd_ins: usize,
-    bwd_outs: usize,
+    fwd: Lengths,
+    bwd: Lengths,
     arcs: usize,
     weights: usize,
     nodes: usize,
@@ -73,28 +88,11 @@ pub fn lent_short(
     heap: usize,
 ) -> bool
     requires { n ≤ 1024 }
-    ensures { result ≡ lent_short_by n pool ranks (uneven_by n fwd_starts fwd_bases fwd_neighbours fwd_weights fwd_ins fwd_outs)
-        (uneven_by n bwd_starts bwd_bases bwd_neighbours bwd_weights bwd_ins bwd_outs) (arcs ∷ weights ∷ nodes ∷ labels ∷ heap ∷ []) }
+    ensures { result ≡ lent_short_by n pool ranks (uneven_in n fwd) (uneven_in n bwd) (arcs ∷ weights ∷ nodes ∷ labels ∷ heap ∷ []) }
 {
     ranks < n
-        || uneven(
-            n,
-            fwd_starts,
-            fwd_bases,
-            fwd_neighbours,
-            fwd_weights,
-            fwd_ins,
-            fwd_outs,
-        )
-        || uneven(
-            n,
-            bwd_starts,
-            bwd_bases,
-            bwd_neighbours,
-            bwd_weights,
-            bwd_ins,
-            bwd_outs,
-        )
+        || fwd.uneven(n)
+        || bwd.uneven(n)
         || scratch_short(n, pool, arcs, weights, nodes, labels, heap)
 }
 

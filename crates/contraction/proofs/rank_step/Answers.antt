@@ -19,31 +19,31 @@ list_length-more_fwd-requires c = (omega arith, (_, walk_out c.requires.3))
 pub list_length-more_bwd-requires : goal.list_length-more_bwd-requires
 list_length-more_bwd-requires c = (omega arith, (_, walk_in c.requires.3))
 
-pub overflow_sub-fwd_bases : goal.overflow_sub-fwd_bases
-overflow_sub-fwd_bases c = forward_within c.requires.3
+pub overflow_sub-fwd : goal.overflow_sub-fwd
+overflow_sub-fwd c = forward_within c.requires.3
 
-pub returns-then-fwd_bases-fwd-clause-steps : goal.returns-then-fwd_bases-fwd-clause-steps
-returns-then-fwd_bases-fwd-clause-steps c = λ g b vs p. full_forward p (c.list_length-more_fwd.ensures _ (walk_out p)) (c.list_length-more_bwd.ensures _ (walk_in p)) c.if-fwd_bases-fwd.true
+pub returns-then-fwd-ranked-clause-steps : goal.returns-then-fwd-ranked-clause-steps
+returns-then-fwd-ranked-clause-steps c = λ g b vs p. full_forward p (c.list_length-more_fwd.ensures _ (walk_out p)) (c.list_length-more_bwd.ensures _ (walk_in p)) c.if-fwd-ranked.true
 
-pub overflow_sub-bwd_bases : goal.overflow_sub-bwd_bases
-overflow_sub-bwd_bases c = backward_within c.requires.3
+pub overflow_sub-bwd : goal.overflow_sub-bwd
+overflow_sub-bwd c = backward_within c.requires.3
 
-pub returns-then-bwd_bases-bwd-clause-steps : goal.returns-then-bwd_bases-bwd-clause-steps
-returns-then-bwd_bases-bwd-clause-steps c = λ g b vs p. full_backward p (c.list_length-more_fwd.ensures _ (walk_out p)) (c.list_length-more_bwd.ensures _ (walk_in p)) c.if-fwd_bases-fwd.false c.if-bwd_bases-bwd.true
+pub returns-then-bwd-ranked-clause-steps : goal.returns-then-bwd-ranked-clause-steps
+returns-then-bwd-ranked-clause-steps c = λ g b vs p. full_backward p (c.list_length-more_fwd.ensures _ (walk_out p)) (c.list_length-more_bwd.ensures _ (walk_in p)) c.if-fwd-ranked.false c.if-bwd-ranked.true
 
 pub lay_rank-requires : goal.lay_rank-requires
-lay_rank-requires c = let p = c.requires.3 in (_, _, layable_forward p (c.list_length-more_fwd.ensures _ (walk_out p)) (c.list_length-more_bwd.ensures _ (walk_in p)) c.if-fwd_bases-fwd.false c.if-bwd_bases-bwd.false)
+lay_rank-requires c = let p = c.requires.3 in (_, _, layable_forward p (c.list_length-more_fwd.ensures _ (walk_out p)) (c.list_length-more_bwd.ensures _ (walk_in p)) c.if-fwd-ranked.false c.if-bwd-ranked.false)
 
 pub lay_rank-requires-2 : goal.lay_rank-requires-2
-lay_rank-requires-2 c = let p = c.requires.3 in (_, _, layable_backward p (c.list_length-more_fwd.ensures _ (walk_out p)) (c.list_length-more_bwd.ensures _ (walk_in p)) c.if-fwd_bases-fwd.false c.if-bwd_bases-bwd.false)
+lay_rank-requires-2 c = let p = c.requires.3 in (_, _, layable_backward p (c.list_length-more_fwd.ensures _ (walk_out p)) (c.list_length-more_bwd.ensures _ (walk_in p)) c.if-fwd-ranked.false c.if-bwd-ranked.false)
 
 pub contract_node-requires : goal.contract_node-requires
-contract_node-requires c = let p = c.requires.3 in (_, _, contractible p (c.list_length-more_fwd.ensures _ (walk_out p)) (c.list_length-more_bwd.ensures _ (walk_in p)) c.if-fwd_bases-fwd.false c.if-bwd_bases-bwd.false)
+contract_node-requires c = let p = c.requires.3 in (_, _, contractible p (c.list_length-more_fwd.ensures _ (walk_out p)) (c.list_length-more_bwd.ensures _ (walk_in p)) c.if-fwd-ranked.false c.if-bwd-ranked.false)
 
 pub returns-clause-steps : goal.returns-clause-steps
 returns-clause-steps c =
     λ g b vs p.
-    step_came p (c.list_length-more_fwd.ensures _ (walk_out p)) (c.list_length-more_bwd.ensures _ (walk_in p)) c.if-fwd_bases-fwd.false c.if-bwd_bases-bwd.false c.lay_rank.ensures c.lay_rank-2.ensures
+    step_came p (c.list_length-more_fwd.ensures _ (walk_out p)) (c.list_length-more_bwd.ensures _ (walk_in p)) c.if-fwd-ranked.false c.if-bwd-ranked.false c.lay_rank.ensures.lays c.lay_rank-2.ensures.lays
     c.contract_node.ensures.contracts _ (ap (told _) c.in_ok-contract_node.was)
 
 pub returns-in_err-contract_node-clause-steps : goal.returns-in_err-contract_node-clause-steps
@@ -51,4 +51,4 @@ returns-in_err-contract_node-clause-steps c =
     λ g b vs p.
     let is = err_from_is_err_and c.from_residual.result c.from_residual.ensures.1 in
     rw (is.1, is.2, staged)
-    (step_stopped p (c.list_length-more_fwd.ensures _ (walk_out p)) (c.list_length-more_bwd.ensures _ (walk_in p)) c.if-fwd_bases-fwd.false c.if-bwd_bases-bwd.false c.contract_node.ensures.contracts _ (ap (told _) c.in_err-contract_node.was))
+    (step_stopped p (c.list_length-more_fwd.ensures _ (walk_out p)) (c.list_length-more_bwd.ensures _ (walk_in p)) c.if-fwd-ranked.false c.if-bwd-ranked.false c.contract_node.ensures.contracts _ (ap (told _) c.in_err-contract_node.was))

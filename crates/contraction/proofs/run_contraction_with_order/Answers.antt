@@ -6,13 +6,14 @@ use native.Mathlib.Omega.{arith}
 use Rattle.std.proofs.lemmas.Result.{err_from_is_err_and}
 use Rattle.graph.proofs.Answering.{kept_all, kept_on}
 use Rattle.search.proofs.Laws.{search_kept_all, search_kept_on}
+use Rattle.entries.proofs.Keeping.{outs_kept_all, outs_kept_on}
 use Rattle.contraction.specs.Ranks.{staged}
 use Rattle.contraction.proofs.Ranking.{stopped}
 use Rattle.contraction.proofs.Running.{begins, stepping, stepping_as, gives_up, goes_on, is_done}
 use Rattle.contraction.proofs.run_contraction_with_order.Goals as goal
 
 pub loop-r-init : goal.loop-r-init
-loop-r-init c = (λ n l h s p. begins p, kept_all _, search_kept_all _)
+loop-r-init c = (λ n l h s p. begins p, kept_all _, search_kept_all _, outs_kept_all _, outs_kept_all _)
 
 pub rank_step-requires : goal.rank_step-requires
 rank_step-requires c =
@@ -34,6 +35,8 @@ returns-in_err-ranked c =
           rw (is.1, is.2, staged) (stopped (gives_up y below (steps _ y.building _ (stepping y below)) _ (ap (staged _) c.in_err-ranked.was)));
       kept = kept_on k.1 c.rank_step.ensures.kept;
       search_kept = search_kept_on k.2 c.rank_step.ensures.search_kept;
+      fwd_kept = outs_kept_on k.3 c.rank_step.ensures.fwd_kept;
+      bwd_kept = outs_kept_on k.4 c.rank_step.ensures.bwd_kept;
     }
 
 pub loop-r-preserved : goal.loop-r-preserved
@@ -46,6 +49,8 @@ loop-r-preserved c =
           goes_on y below (steps _ y.building _ (stepping y below)) _ (ap (staged _) c.in_ok-ranked.was),
       kept_on k.1 c.rank_step.ensures.kept,
       search_kept_on k.2 c.rank_step.ensures.search_kept,
+      outs_kept_on k.3 c.rank_step.ensures.fwd_kept,
+      outs_kept_on k.4 c.rank_step.ensures.bwd_kept,
     )
 
 pub returns-clause-starts : goal.returns-clause-starts

@@ -1,6 +1,7 @@
 -- The ranks are laid with a pool that is as good, and then the rest follows.
 use mathlib.Core.Path.{◌∙◌}
 use Rattle.search.specs.Searching.{Lent, lent}
+use Rattle.marks.proofs.Keeping.{columns_kept_on}
 use Rattle.fast_graph_builder.proofs.Passing.{few, accepting, closing_columns, as_built}
 use Rattle.fast_graph_builder.proofs.build_checked.Goals as goal
 use Rattle.fast_graph_builder.proofs.build_checked.Goals.{Start}
@@ -18,14 +19,20 @@ contraction-ranked-requires c = (_, _, accepting (scratch (goal.at.contraction-r
 pub close-requires : goal.close-requires
 close-requires c =
     let s = scratch (goal.at.close-requires c).Start in
-    let ranked = c.contraction-ranked in
+    let ranked = c.contraction-ranked.ensures in
     let here = c.pool_inside-inside.ensures in
-    (_, _, _, _, closing_columns s c.requires here (ranked.ensures.comes _ _ (accepting s c.requires here)) ranked.auto.fwd_starts ranked.auto.fwd_bases ranked.auto.fwd_neighbours ranked.auto.fwd_weights ranked.auto.fwd_ins ranked.auto.bwd_starts ranked.auto.bwd_bases ranked.auto.bwd_neighbours ranked.auto.bwd_weights ranked.auto.bwd_ins)
+    (_, _, _, _, closing_columns s c.requires here ranked.fwd_kept ranked.bwd_kept (ranked.comes _ _ (accepting s c.requires here)))
 
 pub returns : goal.returns
 returns c =
     let s = scratch (goal.at.returns c).Start in
-    let ranked = c.contraction-ranked in
+    let ranked = c.contraction-ranked.ensures in
     let here = c.pool_inside-inside.ensures in
-    c.close.ensures _ _ _ _ (closing_columns s c.requires here (ranked.ensures.comes _ _ (accepting s c.requires here)) ranked.auto.fwd_starts ranked.auto.fwd_bases ranked.auto.fwd_neighbours ranked.auto.fwd_weights ranked.auto.fwd_ins ranked.auto.bwd_starts ranked.auto.bwd_bases ranked.auto.bwd_neighbours ranked.auto.bwd_weights ranked.auto.bwd_ins)
-    ∙ as_built s c.requires here
+    let closed = c.close.ensures in
+    record {
+      runs =
+          closed.closes _ _ _ _ (closing_columns s c.requires here ranked.fwd_kept ranked.bwd_kept (ranked.comes _ _ (accepting s c.requires here)))
+          ∙ as_built s c.requires here;
+      fwd_kept = columns_kept_on ranked.fwd_kept.columns closed.fwd_kept;
+      bwd_kept = columns_kept_on ranked.bwd_kept.columns closed.bwd_kept;
+    }

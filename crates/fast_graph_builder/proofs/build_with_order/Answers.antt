@@ -2,6 +2,7 @@
 use mathlib.Core.Path.{◌≡◌, sym, ◌∙◌}
 use mathlib.Core.Bool.{Bool, false}
 use native.Mathlib.Omega.{arith}
+use Rattle.std.proofs.Common.{rules}
 use lib.ListN.{length}
 use Rattle.std.proofs.lemmas.Result.{err_from_is_err_and}
 use Rattle.rules.specs.Refusals.{BuildCall, lent_short, build_refusal}
@@ -68,5 +69,6 @@ build_checked-requires c =
 pub returns : goal.returns
 returns c =
     let s = (goal.at.returns c).Start in
-    c.build_checked.ensures
-    ∙ let_in_built (asked s) (passed s c.in_ok-refusal.ensures (row_nine s c.lent_short.ensures ∙ c.if-lent_short.false))
+    let h = c.build_checked.ensures.runs
+    ∙ let_in_built (asked s) (passed s c.in_ok-refusal.ensures (row_nine s c.lent_short.ensures ∙ c.if-lent_short.false)) in
+    search (rules, h)

@@ -1,11 +1,11 @@
 -- Each column is filled.
 use Rattle.rules.specs.Numbers.{invalid, no_weight}
 use Rattle.marks.proofs.Filling.{filled_whole, table_marked}
-use Rattle.marks.proofs.mark_table.Goals as goal
+use Rattle.marks.proofs.TableMut.mark.Goals as goal
 
-pub returns : goal.returns
-returns c =
-    let a = c.args in
+pub returns-clause-marks : goal.returns-clause-marks
+returns-clause-marks c =
+    let a = c.args.self.now in
     table_marked _
     (filled_whole invalid a.starts.now (c.fill.ensures.after (λ _ e. e)))
     (filled_whole invalid a.bases.now (c.fill-2.ensures.after (λ _ e. e)))
