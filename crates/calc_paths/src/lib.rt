@@ -1,6 +1,6 @@
 // Many routes of one hierarchy: its tables are checked once and the labels cleared once, so that a pair costs what its search costs.
 //
-// Scratch: fl and bl are the labels of the forward and the backward side, fh and bh their heaps.
+// Scratch is two halves, as of a query.
 #![tactic(auto)]
 
 ghost use Rattle.std.specs.Prelude.{[], ◌∷◌, ◌≡◌, ◌*◌, length, get_or};
@@ -52,12 +52,10 @@ fn refusal(
     weights: usize,
     lengths: usize,
     paths: usize,
-    fl: usize,
-    bl: usize,
-    fh: usize,
-    bh: usize,
+    fwd: &Half<'_>,
+    bwd: &Half<'_>,
 ) -> Result<(), Refusal>
-    ensures { code result ≡ first_met (many_rows g.now.num_nodes (hierarchy_of g.now) sources targets (numbers ∷ weights ∷ lengths ∷ paths ∷ []) (fl ∷ bl ∷ fh ∷ bh ∷ [])) }
+    ensures { code result ≡ first_met (many_rows g.now.num_nodes (hierarchy_of g.now) sources targets (numbers ∷ weights ∷ lengths ∷ paths ∷ []) (scratch_of fwd.now bwd.now)) }
 {
     tables::check_tables(g)?;
     if sources != targets {
@@ -66,7 +64,7 @@ fn refusal(
     if answers_short(g.num_nodes, sources, numbers, weights, lengths, paths) {
         return Err(Refusal::Room);
     }
-    if query::lent_short(g, g.num_nodes, fl, bl, fh, bh) {
+    if query::lent_short(g, g.num_nodes, fwd, bwd) {
         return Err(Refusal::Room);
     }
     Ok(())
@@ -162,12 +160,10 @@ pub fn calc_paths(
     weights: &mut [u64],
     lengths: &mut [u32],
     paths: &mut [u32],
-    fl: &mut [u64],
-    bl: &mut [u64],
-    fh: &mut [u64],
-    bh: &mut [u64],
+    fwd: &mut Half<'_>,
+    bwd: &mut Half<'_>,
 ) -> Result<(), Refusal>
-    ensures { answered (code result) (columns_of numbers.new weights.new lengths.new paths.new) ≡ calc_paths (paths_call g.now.num_nodes (hierarchy_of g.now) sources.now targets.now (columns_of numbers.old weights.old lengths.old paths.old) (length fl.old ∷ length bl.old ∷ length fh.old ∷ length bh.old ∷ [])) }
+    ensures { answered (code result) (columns_of numbers.new weights.new lengths.new paths.new) ≡ calc_paths (paths_call g.now.num_nodes (hierarchy_of g.now) sources.now targets.now (columns_of numbers.old weights.old lengths.old paths.old) (scratch_of fwd.old bwd.old)) }
 {
     refusal(
         g,
@@ -177,27 +173,13 @@ pub fn calc_paths(
         weights.len(),
         lengths.len(),
         paths.len(),
-        fl.len(),
-        bl.len(),
-        fh.len(),
-        bh.len(),
+        fwd,
+        bwd,
     )?;
-    halves::clear(g.num_nodes, fl);
-    halves::clear(g.num_nodes, bl);
-    let mut fwd = Half {
-        labels: fl,
-        heap: fh,
-        base: 1,
-        len: 0,
-    };
-    let mut bwd = Half {
-        labels: bl,
-        heap: bh,
-        base: 1,
-        len: 0,
-    };
+    halves::clear(g.num_nodes, fwd.labels);
+    halves::clear(g.num_nodes, bwd.labels);
     fill_all(
-        g, sources, targets, numbers, weights, lengths, paths, &mut fwd, &mut bwd,
+        g, sources, targets, numbers, weights, lengths, paths, fwd, bwd,
     );
     Ok(())
 }

@@ -15,7 +15,7 @@ ghost use Rattle.gather.specs.Gathering.{Begun};
 ghost use Rattle.gateway.specs.Answering.{Small, Closed, Limited, Followed, AtLimit, Limits, after, Blank};
 
 use gather::gather;
-use halves::Ends;
+use halves::{Ends, Half};
 use query::ShortestPath;
 use records::{kind_at, u16_at, u32_at};
 use rules::{Refusal, WEIGHT_MAX};
@@ -52,10 +52,8 @@ fn ask(
         &source,
         &target,
         path,
-        &mut fl[..4 * n],
-        &mut bl[..4 * n],
-        &mut fh[..f],
-        &mut bh[..b],
+        &mut Half::new(&mut fl[..4 * n], &mut fh[..f]),
+        &mut Half::new(&mut bl[..4 * n], &mut bh[..b]),
     )
 }
 

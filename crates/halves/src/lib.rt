@@ -51,6 +51,20 @@ pub struct Half<'a> {
     pub len: usize,
 }
 
+impl<'a> Half<'a> {
+    // What is lent for one side's searches.
+    pub fn new(labels: &'a mut [u64], heap: &'a mut [u64]) -> Half<'a>
+        ensures { (result.labels.now ≡ labels.old) × (result.heap.now ≡ heap.old) }
+    {
+        Half {
+            labels,
+            heap,
+            base: 1,
+            len: 0,
+        }
+    }
+}
+
 impl Half<'_> {
     // Begins a search of this base, with an empty heap. That no stamp is of the base is asked where it is searched.
     pub fn start(&mut self, base: u64)

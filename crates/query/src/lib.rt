@@ -1,9 +1,9 @@
 // The query: refusals, the search, and the walk handed back.
 //
-// Scratch: fl and bl are the labels of the forward and the backward side, fh and bh their heaps.
+// Scratch is two halves, one of each side: labels and a heap. Whatever search they were of before, a query begins its own.
 #![tactic(auto)]
 
-ghost use Rattle.std.specs.Prelude.{[], ◌∷◌, ◌≡◌, ◌<◌, ◌≤◌, length, get_or};
+ghost use Rattle.std.specs.Prelude.{◌≡◌, ◌<◌, ◌≤◌, length, get_or};
 ghost use Rattle.rules.specs.Refused.{code};
 ghost use Rattle.rules.specs.Refusals.{query_refusal};
 ghost use Rattle.rules.specs.Query.{query};
@@ -12,7 +12,7 @@ ghost use Rattle.ends.specs.Given.{ends_of};
 ghost use Rattle.path_calculator.specs.Searching.{Fresh, call_of};
 ghost use Rattle.query.specs.Rows.{ends_refusal, room_short};
 ghost use Rattle.query.specs.Answers.{answer, Tells, Hands, Handing, HandedBack};
-ghost use Rattle.query.specs.Routes.{answer_of, RoutingOn, RoutedOn};
+ghost use Rattle.query.specs.Routes.{answer_of, scratch_of, RoutingOn, RoutedOn};
 
 use halves::{Ends, Half};
 use rules::{INVALID, Refusal, WEIGHT_MAX};
@@ -44,31 +44,24 @@ fn check_ends(n: usize, sources: &Ends<'_>, targets: &Ends<'_>) -> Result<(), Re
 }
 
 // Whether a length that is lent is below what row 24 asks.
-pub fn lent_short(
-    g: &FastGraph<'_>,
-    path: usize,
-    fl: usize,
-    bl: usize,
-    fh: usize,
-    bh: usize,
-) -> bool
+pub fn lent_short(g: &FastGraph<'_>, path: usize, fwd: &Half<'_>, bwd: &Half<'_>) -> bool
     requires { (g.now.num_nodes ≤ 1024) × (g.now.num_nodes < length g.now.fwd.starts.now) × (g.now.num_nodes < length g.now.bwd.starts.now) }
-    ensures { result ≡ room_short g.now.num_nodes (get_or g.now.fwd.starts.now g.now.num_nodes 0) (get_or g.now.bwd.starts.now g.now.num_nodes 0) path fl bl fh bh }
+    ensures { result ≡ room_short g.now.num_nodes (get_or g.now.fwd.starts.now g.now.num_nodes 0) (get_or g.now.bwd.starts.now g.now.num_nodes 0) path (length fwd.now.labels.now) (length bwd.now.labels.now) (length fwd.now.heap.now) (length bwd.now.heap.now) }
 {
     let n = g.num_nodes;
     if path < n {
         return true;
     }
-    if fl < 4 * n {
+    if fwd.labels.len() < 4 * n {
         return true;
     }
-    if bl < 4 * n {
+    if bwd.labels.len() < 4 * n {
         return true;
     }
-    if fh < 2 * (g.fwd.starts[n] as usize + rules::MAX_ENDS) {
+    if fwd.heap.len() < 2 * (g.fwd.starts[n] as usize + rules::MAX_ENDS) {
         return true;
     }
-    bh < 2 * (g.bwd.starts[n] as usize + rules::MAX_ENDS)
+    bwd.heap.len() < 2 * (g.bwd.starts[n] as usize + rules::MAX_ENDS)
 }
 
 // The first row that is met. Of scratch only the lengths matter.
@@ -77,16 +70,14 @@ pub fn refusal(
     sources: &Ends<'_>,
     targets: &Ends<'_>,
     path: &[u32],
-    fl: usize,
-    bl: usize,
-    fh: usize,
-    bh: usize,
+    fwd: &Half<'_>,
+    bwd: &Half<'_>,
 ) -> Result<(), Refusal>
-    ensures { code result ≡ query_refusal (call_of g.now sources.now targets.now path.now (fl ∷ bl ∷ fh ∷ bh ∷ [])) }
+    ensures { code result ≡ query_refusal (call_of g.now sources.now targets.now path.now (scratch_of fwd.now bwd.now)) }
 {
     tables::check_tables(g)?;
     check_ends(g.num_nodes, sources, targets)?;
-    if lent_short(g, path.len(), fl, bl, fh, bh) {
+    if lent_short(g, path.len(), fwd, bwd) {
         return Err(Refusal::Room);
     }
     Ok(())
@@ -149,38 +140,17 @@ pub fn calc_path(
     sources: &Ends<'_>,
     targets: &Ends<'_>,
     path: &mut [u32],
-    fl: &mut [u64],
-    bl: &mut [u64],
-    fh: &mut [u64],
-    bh: &mut [u64],
+    fwd: &mut Half<'_>,
+    bwd: &mut Half<'_>,
 ) -> Result<Option<ShortestPath>, Refusal>
-    ensures { Tells (query (call_of g.now sources.now targets.now path.old (length fl.old ∷ length bl.old ∷ length fh.old ∷ length bh.old ∷ []))) (answer_of result) path.new }
+    ensures { Tells (query (call_of g.now sources.now targets.now path.old (scratch_of fwd.old bwd.old))) (answer_of result) path.new }
 {
-    refusal(
-        g,
-        sources,
-        targets,
-        path,
-        fl.len(),
-        bl.len(),
-        fh.len(),
-        bh.len(),
-    )?;
-    halves::clear(g.num_nodes, fl);
-    halves::clear(g.num_nodes, bl);
-    let mut fwd = Half {
-        labels: fl,
-        heap: fh,
-        base: 1,
-        len: 0,
-    };
-    let mut bwd = Half {
-        labels: bl,
-        heap: bh,
-        base: 1,
-        len: 0,
-    };
-    route(g, sources, targets, path, &mut fwd, &mut bwd)
+    refusal(g, sources, targets, path, fwd, bwd)?;
+    halves::clear(g.num_nodes, fwd.labels);
+    halves::clear(g.num_nodes, bwd.labels);
+    fwd.start(1);
+    bwd.start(1);
+    route(g, sources, targets, path, fwd, bwd)
 }
 
 // The number, the weight and the count of an answer: 0, the mark and 0 where they are not its own.
@@ -202,14 +172,12 @@ pub fn fill_path(
     path: &mut [u32],
     number: &mut u32,
     weight: &mut u64,
-    fl: &mut [u64],
-    bl: &mut [u64],
-    fh: &mut [u64],
-    bh: &mut [u64],
+    fwd: &mut Half<'_>,
+    bwd: &mut Half<'_>,
 ) -> usize
-    ensures { Tells (query (call_of g.now sources.now targets.now path.old (length fl.old ∷ length bl.old ∷ length fh.old ∷ length bh.old ∷ []))) (answer number.new weight.new result) path.new }
+    ensures { Tells (query (call_of g.now sources.now targets.now path.old (scratch_of fwd.old bwd.old))) (answer number.new weight.new result) path.new }
 {
-    let (answered, least, count) = numbers(calc_path(g, sources, targets, path, fl, bl, fh, bh));
+    let (answered, least, count) = numbers(calc_path(g, sources, targets, path, fwd, bwd));
     *number = answered;
     *weight = least;
     count
@@ -224,13 +192,11 @@ pub fn calc_path_multiple_sources_and_targets<'a>(
     path: &'a mut [u32],
     number: &mut u32,
     weight: &mut u64,
-    fl: &mut [u64],
-    bl: &mut [u64],
-    fh: &mut [u64],
-    bh: &mut [u64],
+    fwd: &mut Half<'_>,
+    bwd: &mut Half<'_>,
 ) -> &'a mut [u32]
-    ensures { Hands (query (call_of g.now sources.now targets.now path.old (length fl.old ∷ length bl.old ∷ length fh.old ∷ length bh.old ∷ []))) result.now number.new weight.new }
+    ensures { Hands (query (call_of g.now sources.now targets.now path.old (scratch_of fwd.old bwd.old))) result.now number.new weight.new }
 {
-    let count = fill_path(g, sources, targets, path, number, weight, fl, bl, fh, bh);
+    let count = fill_path(g, sources, targets, path, number, weight, fwd, bwd);
     &mut path[..count]
 }

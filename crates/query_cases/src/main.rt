@@ -5,6 +5,7 @@
 ghost use Rattle.std.specs.Prelude.{◌<◌, ◌^◌, length};
 
 use fixed::{Number, Reader};
+use halves::Half;
 use std::io;
 use tables::{FastGraph, Table};
 
@@ -197,10 +198,8 @@ impl Hierarchy {
             path,
             &mut number,
             &mut weight,
-            &mut fwd_labels,
-            &mut bwd_labels,
-            &mut fwd_heap,
-            &mut bwd_heap,
+            &mut Half::new(&mut fwd_labels, &mut fwd_heap),
+            &mut Half::new(&mut bwd_labels, &mut bwd_heap),
         );
         (number, weight, count)
     }

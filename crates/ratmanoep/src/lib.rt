@@ -19,7 +19,7 @@ ghost use Rattle.calc_paths.specs.Many.{calc_paths};
 ghost use Rattle.calc_paths.specs.Filling.{columns_of, paths_call, answered};
 ghost use Rattle.text.specs.Wrote.{Wrote};
 
-use halves::Ends;
+use halves::{Ends, Half};
 use tables::{FastGraph, Table};
 
 // The build in a given order.
@@ -190,8 +190,10 @@ pub extern "C" fn ratmanoep_calc_path(
         nodes: targets,
         offsets: target_offsets,
     };
+    let mut fwd = Half::new(fwd_labels, fwd_heap);
+    let mut bwd = Half::new(bwd_labels, bwd_heap);
     query::fill_path(
-        &g, &sources, &targets, path, number, weight, fwd_labels, bwd_labels, fwd_heap, bwd_heap,
+        &g, &sources, &targets, path, number, weight, &mut fwd, &mut bwd,
     )
 }
 
@@ -245,9 +247,10 @@ pub extern "C" fn ratmanoep_calc_paths(
             outs: bwd_outs,
         },
     };
+    let mut fwd = Half::new(fwd_labels, fwd_heap);
+    let mut bwd = Half::new(bwd_labels, bwd_heap);
     rules::number(calc_paths::calc_paths(
-        &g, sources, targets, numbers, weights, lengths, paths, fwd_labels, bwd_labels, fwd_heap,
-        bwd_heap,
+        &g, sources, targets, numbers, weights, lengths, paths, &mut fwd, &mut bwd,
     ))
 }
 

@@ -1,5 +1,5 @@
 -- The refusals first; a query that none of them meets is answered by `route`, over cleared labels.
-use mathlib.Core.Path.{refl, sym}
+use mathlib.Core.Path.{sym, ◌∙◌}
 use Rattle.std.proofs.lemmas.Result.{err_from_is_err_and}
 use Rattle.rules.proofs.Refused.{some_number}
 use Rattle.query_laws.proofs.Accepted.{accepted}
@@ -19,7 +19,17 @@ pub clear-requires-2 : goal.clear-requires-2
 clear-requires-2 c = (rooms _ _ _ _ _ _ (accepted _ (sym c.in_ok-refusal.ensures)).scratch_room).1
 
 pub route-requires : goal.route-requires
-route-requires c = (record { base = refl; fwd_empty = refl; bwd_empty = refl }, routing _ _ _ _ _ _ _ _ _ _ _ (sym c.in_ok-refusal.ensures) _ _ c.clear.auto.labels c.clear-2.auto.labels c.clear.ensures c.clear-2.ensures)
+route-requires c =
+    let x = c.start.ensures in
+    let y = c.start-2.ensures in (
+      record { base = y.base_is ∙ sym x.base_is; fwd_empty = x.empty; bwd_empty = y.empty },
+      rw (x.labels, x.heap, x.base_is, y.labels, y.heap)
+        (routing _ _ _ _ _ _ _ _ _ _ _ (sym c.in_ok-refusal.ensures) _ _ c.clear.auto.labels c.clear-2.auto.labels c.clear.ensures c.clear-2.ensures),
+    )
 
 pub returns : goal.returns
-returns c = tells_routed _ _ _ _ _ _ _ _ _ _ _ (sym c.in_ok-refusal.ensures) _ _ c.clear.auto.labels c.clear-2.auto.labels c.route.ensures.routed
+returns c =
+    let x = c.start.ensures in
+    let y = c.start-2.ensures in
+    tells_routed _ _ _ _ _ _ _ _ _ _ _ (sym c.in_ok-refusal.ensures) _ _ c.clear.auto.labels c.clear-2.auto.labels
+    (rw (x.labels, x.heap, x.base_is, y.labels, y.heap) at c.route.ensures.routed)

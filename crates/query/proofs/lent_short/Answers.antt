@@ -5,14 +5,14 @@ use Rattle.query.proofs.lent_short.Goals as goal
 pub returns-then-path-n : goal.returns-then-path-n
 returns-then-path-n c = path_short _ _ _ _ _ _ _ _ c.if-path-n.true
 
-pub returns-then-fl-n : goal.returns-then-fl-n
-returns-then-fl-n c = fl_short _ _ _ _ _ _ _ _ c.if-path-n.false c.if-fl-n.true
+pub returns-then-fwd-n : goal.returns-then-fwd-n
+returns-then-fwd-n c = fl_short _ _ _ _ _ _ _ _ c.if-path-n.false c.if-fwd-n.true
 
-pub returns-then-bl-n : goal.returns-then-bl-n
-returns-then-bl-n c = bl_short _ _ _ _ _ _ _ _ c.if-path-n.false c.if-fl-n.false c.if-bl-n.true
+pub returns-then-bwd-n : goal.returns-then-bwd-n
+returns-then-bwd-n c = bl_short _ _ _ _ _ _ _ _ c.if-path-n.false c.if-fwd-n.false c.if-bwd-n.true
 
-pub returns-then-fh-g : goal.returns-then-fh-g
-returns-then-fh-g c = fh_short _ _ _ _ _ _ _ _ c.if-path-n.false c.if-fl-n.false c.if-bl-n.false c.if-fh-g.true
+pub returns-then-fwd-g : goal.returns-then-fwd-g
+returns-then-fwd-g c = fh_short _ _ _ _ _ _ _ _ c.if-path-n.false c.if-fwd-n.false c.if-bwd-n.false c.if-fwd-g.true
 
 pub returns : goal.returns
-returns c = bh_short _ _ _ _ _ _ _ _ c.if-path-n.false c.if-fl-n.false c.if-bl-n.false c.if-fh-g.false
+returns c = bh_short _ _ _ _ _ _ _ _ c.if-path-n.false c.if-fwd-n.false c.if-bwd-n.false c.if-fwd-g.false
