@@ -109,6 +109,7 @@ pub fn finish_contraction(
     write_ranks(order, ranks);
     fwd.starts[n] = fwd_count as u32;
     bwd.starts[n] = bwd_count as u32;
+    // column by column, since some are read while others are written
     let fwd_starts = &mut *fwd.starts;
     let fwd_bases = &mut *fwd.bases;
     let fwd_neighbours = &mut *fwd.neighbours;
