@@ -39,13 +39,10 @@ fn rank_step(
     bwd: &mut TableMut<'_>,
 ) -> Result<Ranked, Refusal>
     requires { (g : Given) × (b : Building) × (vs : List ℕ) × Stepping g b vs limit graph.old.pool r v
-        (parts_at fwd.old bwd.old)
-        (slices graph.old search.old) (work graph.old search.old) ranked.fwd ranked.bwd }
+        (parts_at fwd.old bwd.old) (slices graph.old search.old) (work graph.old search.old) ranked.fwd ranked.bwd }
     ensures steps { Steps limit graph.old.pool r v
-        (parts_at fwd.old bwd.old)
-        (slices graph.old search.old) (work graph.old search.old) ranked.fwd ranked.bwd
-        (parts_at fwd.new bwd.new)
-        (slices graph.new search.new) (staged (work graph.new search.new) result) }
+        (parts_at fwd.old bwd.old) (slices graph.old search.old) (work graph.old search.old) ranked.fwd ranked.bwd
+        (parts_at fwd.new bwd.new) (slices graph.new search.new) (staged (work graph.new search.new) result) }
     ensures kept { Kept graph.old graph.new }
     ensures search_kept { SearchKept search.old search.new }
     ensures fwd_kept { KeptOuts fwd.old fwd.new }
@@ -82,13 +79,10 @@ fn run_contraction_with_order(
     bwd: &mut TableMut<'_>,
 ) -> Result<Ranked, Refusal>
     requires { (n : ℕ) × (l : Links) × (h : Hierarchy) × (s : List ℕ) × Starting (given n l order.now h s) limit graph.old.pool
-        (parts_at fwd.old bwd.old)
-        (slices graph.old search.old) (work graph.old search.old) }
+        (parts_at fwd.old bwd.old) (slices graph.old search.old) (work graph.old search.old) }
     ensures starts { Starts limit graph.old.pool order.now
-        (parts_at fwd.old bwd.old)
-        (slices graph.old search.old) (work graph.old search.old)
-        (parts_at fwd.new bwd.new)
-        (slices graph.new search.new) (staged (work graph.new search.new) result) }
+        (parts_at fwd.old bwd.old) (slices graph.old search.old) (work graph.old search.old)
+        (parts_at fwd.new bwd.new) (slices graph.new search.new) (staged (work graph.new search.new) result) }
     ensures kept { Kept graph.old graph.new }
     ensures search_kept { SearchKept search.old search.new }
     ensures fwd_kept { KeptOuts fwd.old fwd.new }
@@ -115,13 +109,10 @@ pub fn contraction(
     bwd: &mut TableMut<'_>,
 ) -> Result<Ranked, Refusal>
     requires { (h : Hierarchy) × (s : List ℕ) × Accepting (given n (links tails.now heads.now link_weights.now) order.now h s) limit graph.old.pool
-        (parts_at fwd.old bwd.old)
-        (slices graph.old search.old) }
+        (parts_at fwd.old bwd.old) (slices graph.old search.old) }
     ensures comes { Comes n (links tails.now heads.now link_weights.now) order.now limit graph.old.pool
-        (parts_at fwd.old bwd.old)
-        (slices graph.old search.old)
-        (parts_at fwd.new bwd.new)
-        (slices graph.new search.new) (staged (work graph.new search.new) result) }
+        (parts_at fwd.old bwd.old) (slices graph.old search.old)
+        (parts_at fwd.new bwd.new) (slices graph.new search.new) (staged (work graph.new search.new) result) }
     ensures kept { Kept graph.old graph.new }
     ensures search_kept { SearchKept search.old search.new }
     ensures fwd_kept { KeptOuts fwd.old fwd.new }

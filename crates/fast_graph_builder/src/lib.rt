@@ -45,13 +45,10 @@ fn close(
     bwd: &mut TableMut<'_>,
 ) -> Result<(), Refusal>
     requires { (c : BuildCall) × (s : Step Building) × (m : Lent) × (w : Work) × Closing c s m n order.now (staged w ranked)
-        (hierarchy ranks.old
-        (table_at fwd.old) (table_at bwd.old)) }
+        (hierarchy ranks.old (table_at fwd.old) (table_at bwd.old)) }
     ensures closes { (c : BuildCall) (s : Step Building) (m : Lent) (w : Work) → Closing c s m n order.now (staged w ranked)
-        (hierarchy ranks.old
-        (table_at fwd.old) (table_at bwd.old)) →
-        answer (code result) (hierarchy ranks.new
-        (table_at fwd.new) (table_at bwd.new)) ≡ built c s }
+        (hierarchy ranks.old (table_at fwd.old) (table_at bwd.old)) →
+        answer (code result) (hierarchy ranks.new (table_at fwd.new) (table_at bwd.new)) ≡ built c s }
     ensures fwd_kept { KeptColumns fwd.old fwd.new }
     ensures bwd_kept { KeptColumns bwd.old bwd.new }
 {
@@ -85,13 +82,10 @@ fn build_checked(
     labels: &mut [u64],
     heap: &mut [u64],
 ) -> Result<(), Refusal>
-    requires { Passed (call (given n (links tails.now heads.now link_weights.now) order.now (hierarchy ranks.old
-        (table_at fwd.old) (table_at bwd.old))
+    requires { Passed (call (given n (links tails.now heads.now link_weights.now) order.now (hierarchy ranks.old (table_at fwd.old) (table_at bwd.old))
         (lengths arcs.old weights.old nodes.old labels.old heap.old)) limit pool) }
-    ensures runs { answer (code result) (hierarchy ranks.new
-        (table_at fwd.new) (table_at bwd.new)) ≡
-        run (call (given n (links tails.now heads.now link_weights.now) order.now (hierarchy ranks.old
-        (table_at fwd.old) (table_at bwd.old))
+    ensures runs { answer (code result) (hierarchy ranks.new (table_at fwd.new) (table_at bwd.new)) ≡
+        run (call (given n (links tails.now heads.now link_weights.now) order.now (hierarchy ranks.old (table_at fwd.old) (table_at bwd.old))
         (lengths arcs.old weights.old nodes.old labels.old heap.old)) limit pool) }
     ensures fwd_kept { KeptColumns fwd.old fwd.new }
     ensures bwd_kept { KeptColumns bwd.old bwd.new }

@@ -5,8 +5,8 @@ ghost use Rattle.std.specs.Prelude.{List, ℕ, ◌+◌, ◌≤◌, ◌<◌, leng
 ghost use Rattle.rules.specs.Columns.{Side};
 ghost use Rattle.rules.specs.Refusals.{BuildCall};
 ghost use Rattle.rules.specs.Build.{Raw, Building};
-ghost use Rattle.finish.specs.Promises.{Seekable, Sought, Opening, Opens, Finishing, Finishes, Inverse, Ranks};
-ghost use Rattle.finish.specs.Lent.{EndingAt, EndedAt, KeptEntries};
+ghost use Rattle.finish.specs.Promises.{Seekable, Sought, Inverse, Ranks};
+ghost use Rattle.finish.specs.Lent.{OpeningAt, OpensAt, FinishingAt, FinishesAt, EndingAt, EndedAt, KeptEntries};
 
 use marks::TableMut;
 use rules::INVALID;
@@ -27,6 +27,16 @@ fn get_edge_id(starts: &[u32], neighbours: &[u32], r: u32, u: u32) -> u32
     end.max(begin)
 }
 
+// What an entry's numbers are looked up in: the ranks, and of either table where a rank's entries start and whom they meet.
+#[derive(Clone, Copy)]
+struct Laid<'a> {
+    ranks: &'a [u32],
+    fwd_starts: &'a [u32],
+    fwd_neighbours: &'a [u32],
+    bwd_starts: &'a [u32],
+    bwd_neighbours: &'a [u32],
+}
+
 // The two numbers of an entry.
 #[derive(Clone, Copy)]
 struct Numbers {
@@ -35,20 +45,9 @@ struct Numbers {
 }
 
 // The backward entry of the centre from the tail, and its forward entry to the head. Without a centre both are invalid.
-fn open_entry(
-    centre: u32,
-    tail: u32,
-    head: u32,
-    ranks: &[u32],
-    fwd_starts: &[u32],
-    fwd_neighbours: &[u32],
-    bwd_starts: &[u32],
-    bwd_neighbours: &[u32],
-) -> Numbers
-    requires { (c : BuildCall) × (b : Building) × (s : Side) × (x : Raw) × Opening c b s x centre tail head
-        ranks.now fwd_starts.now fwd_neighbours.now bwd_starts.now bwd_neighbours.now }
-    ensures { Opens centre tail head
-        ranks.now fwd_starts.now fwd_neighbours.now bwd_starts.now bwd_neighbours.now result }
+fn open_entry(laid: Laid<'_>, centre: u32, tail: u32, head: u32) -> Numbers
+    requires { (c : BuildCall) × (b : Building) × (s : Side) × (x : Raw) × OpeningAt c b s x centre tail head laid }
+    ensures { OpensAt centre tail head laid.entry result }
 {
     if centre == INVALID {
         return Numbers {
@@ -56,43 +55,27 @@ fn open_entry(
             out: INVALID,
         };
     }
-    let r = ranks[centre as usize];
-    let into = get_edge_id(bwd_starts, bwd_neighbours, r, tail);
-    let out = get_edge_id(fwd_starts, fwd_neighbours, r, head);
+    let r = laid.ranks[centre as usize];
+    let into = get_edge_id(laid.bwd_starts, laid.bwd_neighbours, r, tail);
+    let out = get_edge_id(laid.fwd_starts, laid.fwd_neighbours, r, head);
     Numbers { into, out }
 }
 
 // The entries of one table, whose centres wait in the column of the first numbers.
 fn finish_table(
+    laid: Laid<'_>,
     count: usize,
-    ranks: &[u32],
-    fwd_starts: &[u32],
-    fwd_neighbours: &[u32],
-    bwd_starts: &[u32],
-    bwd_neighbours: &[u32],
     tails: &[u32],
     heads: &[u32],
     ins: &mut [u32],
     outs: &mut [u32],
 )
-    requires { (c : BuildCall) × (b : Building) × (s : Side) × Finishing c b s count
-        ranks.now fwd_starts.now fwd_neighbours.now bwd_starts.now bwd_neighbours.now
+    requires { (c : BuildCall) × (b : Building) × (s : Side) × FinishingAt c b s count laid
         tails.now heads.now ins.old outs.old }
-    ensures { Finishes count
-        ranks.now fwd_starts.now fwd_neighbours.now bwd_starts.now bwd_neighbours.now
-        tails.now heads.now ins.old outs.old ins.new outs.new }
+    ensures { FinishesAt count laid.entry tails.now heads.now ins.old outs.old ins.new outs.new }
 {
     for e in 0..count {
-        let numbers = open_entry(
-            ins[e],
-            tails[e],
-            heads[e],
-            ranks,
-            fwd_starts,
-            fwd_neighbours,
-            bwd_starts,
-            bwd_neighbours,
-        );
+        let numbers = open_entry(laid, ins[e], tails[e], heads[e]);
         ins[e] = numbers.into;
         outs[e] = numbers.out;
     }
@@ -127,6 +110,7 @@ pub fn finish_contraction(
     write_ranks(order, ranks);
     fwd.starts[n] = fwd_count as u32;
     bwd.starts[n] = bwd_count as u32;
+    // column by column, since some are read while others are written
     let fwd_starts = &mut *fwd.starts;
     let fwd_bases = &mut *fwd.bases;
     let fwd_neighbours = &mut *fwd.neighbours;
@@ -137,26 +121,25 @@ pub fn finish_contraction(
     let fwd_outs = &mut *fwd.outs;
     let bwd_ins = &mut *bwd.ins;
     let bwd_outs = &mut *bwd.outs;
-    finish_table(
-        fwd_count,
+    let laid = Laid {
         ranks,
         fwd_starts,
         fwd_neighbours,
         bwd_starts,
         bwd_neighbours,
+    };
+    finish_table(
+        laid,
+        fwd_count,
         fwd_bases,
-        fwd_neighbours,
+        laid.fwd_neighbours,
         fwd_ins,
         fwd_outs,
     );
     finish_table(
+        laid,
         bwd_count,
-        ranks,
-        fwd_starts,
-        fwd_neighbours,
-        bwd_starts,
-        bwd_neighbours,
-        bwd_neighbours,
+        laid.bwd_neighbours,
         bwd_bases,
         bwd_ins,
         bwd_outs,

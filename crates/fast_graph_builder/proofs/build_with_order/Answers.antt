@@ -56,13 +56,13 @@ lent_short-requires c = nodes_few _ _ _ (sym c.in_ok-refusal.ensures)
 pub returns-then-lent_short : goal.returns-then-lent_short
 returns-then-lent_short c =
     let s = (goal.at.returns-then-lent_short c).Start in
-    too_short (asked s) (sym c.in_ok-refusal.ensures) (row_nine s c.lent_short.ensures ∙ c.if-lent_short.true)
+    too_short (asked s) (sym c.in_ok-refusal.ensures) (row_nine s (rw (c.of.ensures, c.of-2.ensures) at c.lent_short.ensures) ∙ c.if-lent_short.true)
 
 pub build_checked-requires : goal.build_checked-requires
 build_checked-requires c =
     let s = (goal.at.build_checked-requires c).Start in
     record {
-      accepted = passed s c.in_ok-refusal.ensures (row_nine s c.lent_short.ensures ∙ c.if-lent_short.false);
+      accepted = passed s c.in_ok-refusal.ensures (row_nine s (rw (c.of.ensures, c.of-2.ensures) at c.lent_short.ensures) ∙ c.if-lent_short.false);
       weights = λ w k. let i = in_get_d w _ 0 k in omega (arith, i.2, (c.type_inv.link_weights i.0).fits);
     }
 
@@ -70,5 +70,5 @@ pub returns : goal.returns
 returns c =
     let s = (goal.at.returns c).Start in
     let h = c.build_checked.ensures.runs
-    ∙ let_in_built (asked s) (passed s c.in_ok-refusal.ensures (row_nine s c.lent_short.ensures ∙ c.if-lent_short.false)) in
+    ∙ let_in_built (asked s) (passed s c.in_ok-refusal.ensures (row_nine s (rw (c.of.ensures, c.of-2.ensures) at c.lent_short.ensures) ∙ c.if-lent_short.false)) in
     search (rules, h)

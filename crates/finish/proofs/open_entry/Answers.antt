@@ -6,8 +6,8 @@ use Rattle.finish.proofs.open_entry.Goals as goal
 pub returns-then-centre-eq-INVALID : goal.returns-then-centre-eq-INVALID
 returns-then-centre-eq-INVALID c = λ k b s x p. plain p c.if-centre-eq-INVALID.true
 
-pub bounds-ranks-centre : goal.bounds-ranks-centre
-bounds-ranks-centre c = let p = c.requires.4 in omega (arith, centre_below p c.if-centre-eq-INVALID.false, ranks_room p.columns)
+pub bounds-laid-centre : goal.bounds-laid-centre
+bounds-laid-centre c = let p = c.requires.4 in omega (arith, centre_below p c.if-centre-eq-INVALID.false, ranks_room p.columns)
 
 pub get_edge_id-into-requires : goal.get_edge_id-into-requires
 get_edge_id-into-requires c = let p = c.requires.4 in backward_seekable p.columns _ (rank_below p c.if-centre-eq-INVALID.false)
