@@ -1,5 +1,5 @@
 // Reads the repository's fixed lists of cases and answers (oracle/README.md, "The fixed list"): little-endian numbers, from front to
-// back. Past the end every number is 0.
+// back. Past the end every number is 0. Each program replays its list in a loop of its own: what it reads and what it tells differ.
 #![tactic(auto)]
 
 ghost use Rattle.std.specs.Prelude.{◌≡◌, ◌*◌, ◌<◌, ◌↔◌, ℕ, List, IsTrue, take, drop, length, slice_index_or, true, min, ◌^◌};

@@ -1,6 +1,7 @@
 // The library that a gateway links: document 01's calls and the record program under names of one prefix.
 //
-// Each function is one call of the one that it is named after, whose contract it has. None asks anything of its caller.
+// Each function is one call of the one that it is named after, whose contract it has. None asks anything of its caller. A hierarchy's
+// columns are written out in each, field by field: a function of fourteen places would hide two that are exchanged.
 #![tactic(auto)]
 
 ghost use Rattle.std.specs.Prelude.{[], ◌∷◌, ◌≡◌, length};

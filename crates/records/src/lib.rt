@@ -31,7 +31,7 @@ pub fn u32_at(input: &[u8], at: usize) -> u32
     ])
 }
 
-// 0 for a wrong kind.
+// 0 for a wrong kind, as the definition has it: no length is 0.
 #[tactic(auto, unfolding(rules::specs::Program::record_length))]
 fn record_length(kind: u8) -> usize
     ensures { result ≡ record_length kind }

@@ -24,7 +24,7 @@ route-requires c =
     let y = c.start-2.ensures in (
       record { base = y.base_is ∙ sym x.base_is; fwd_empty = x.empty; bwd_empty = y.empty },
       rw (x.labels, x.heap, x.base_is, y.labels, y.heap)
-        (routing _ _ _ _ _ _ _ _ _ _ _ (sym c.in_ok-refusal.ensures) _ _ c.clear.auto.labels c.clear-2.auto.labels c.clear.ensures c.clear-2.ensures),
+          (routing _ _ _ _ _ _ _ _ _ _ _ (sym c.in_ok-refusal.ensures) _ _ c.clear.auto.labels c.clear-2.auto.labels c.clear.ensures c.clear-2.ensures),
     )
 
 pub returns : goal.returns
