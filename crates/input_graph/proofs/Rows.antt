@@ -1,7 +1,7 @@
 -- Which of rows 1 to 6 is the first that is met.
 use mathlib.Core.Bool.{true, false, not, ◌&&◌, ◌||◌}
 use mathlib.Core.List.{List, [], ◌∷◌}
-use mathlib.Core.Path.{◌≡◌, refl, ap}
+use mathlib.Core.Path.{◌≡◌, refl, sym, ap, ◌∙◌, fun_ext}
 use Prim.Native.Nat.{ℕ, ◌≤◌, ◌<◌}
 use native.Mathlib.Omega.{arith}
 use lib.Dec.{eqb, ltb, leb}
@@ -10,10 +10,10 @@ use borrow.Author.Tests.{eq-eqb, ne_eqb, lt-ltb, le-ltb, lt-leb, le-leb, ltb-tru
 use Rattle.std.specs.List.{list_any, zip}
 use Rattle.rules.specs.Numbers.{max_nodes, max_links}
 use Rattle.rules.specs.Lists.{all, any}
-use Rattle.rules.specs.Columns.{zip_links, link_list}
+use Rattle.rules.specs.Columns.{Link, zip_links, link_list}
 use Rattle.rules.specs.Refusals.{row, first_met, names_none_above, loop, goes_before, ascending, columns_fit, graph_rows, graph_refusal}
 use Rattle.rules.proofs.Cases.{on_test}
-use Rattle.input_graph.specs.Given.{links, earlier, rises}
+use Rattle.input_graph.specs.Given.{links, Even, bad_in, earlier, rises}
 
 -- Rows 3 to 6 as the chains over the columns ask them.
 leb_not_ltb : (n k : ℕ) → leb n k ≡ not (ltb k n)
@@ -58,6 +58,27 @@ ascent_rows (t ∷ (t' ∷ ts)) (h ∷ []) (w ∷ ws) p q = absurd (omega arith)
 ascent_rows (t ∷ (t' ∷ ts)) (h ∷ (h' ∷ hs)) (w ∷ []) p q = absurd (omega arith)
 ascent_rows (t ∷ (t' ∷ ts)) (h ∷ (h' ∷ hs)) (w ∷ (w' ∷ ws)) p q =
     ap (λ b. earlier (t, h) (t', h') && b) (ascent_rows (t' ∷ ts) (h' ∷ hs) (w' ∷ ws) (omega arith) (omega arith))
+
+-- Rows 3 to 5 of a number handed in, link by link.
+above_bad : (n : ℕ) (ls : List Link) → not (all (names_none_above n) ls) ≡ any (bad_in 3 n) ls
+unfolding all any bad_in
+above_bad n [] = refl
+above_bad n (l ∷ ls) = on_test (names_none_above n l) (λ t. rw t (above_bad n ls)) (λ t. rw t)
+
+module _ (row n : ℕ) (ts hs ws : List ℕ) (even : Even ts hs ws) where
+  pub bad_above : row ≡ 3 → list_any (λ l. leb n l.0 || leb n l.1) (zip ts hs) ≡ any (bad_in row n) (link_list (links ts hs ws))
+  unfolding link_list
+  bad_above is = rw is (sym (above_rows n ts hs ws even.heads even.weights) ∙ above_bad n (zip_links ts hs ws))
+
+  pub bad_loop : row ≡ 4 → list_any (λ l. eqb l.0 l.1) (zip ts hs) ≡ any (bad_in row n) (link_list (links ts hs ws))
+  unfolding link_list bad_in
+  bad_loop is = rw is (sym (loop_rows ts hs ws even.heads even.weights) ∙ ap (λ p. any p (zip_links ts hs ws)) (fun_ext (λ l. refl)))
+
+  pub bad_zero : (row ≡ 3 → ⊥) → (row ≡ 4 → ⊥) → list_any (λ w. eqb w 0) ws ≡ any (bad_in row n) (link_list (links ts hs ws))
+  unfolding link_list bad_in
+  bad_zero no_3 no_4 =
+      let same : (l : Link) → eqb l.weight 0 ≡ bad_in row n l = λ l. rw (ne_eqb row 3 no_3, ne_eqb row 4 no_4, bad_in) in
+      sym (zero_rows ts hs ws even.heads even.weights) ∙ ap (λ p. any p (zip_links ts hs ws)) (fun_ext same)
 
 module _ (n : ℕ) (ts hs ws : List ℕ) where
   pub too_many : max_nodes < n → 1 ≡ graph_refusal n (links ts hs ws)

@@ -3,9 +3,11 @@
 
 ghost use Rattle.std.specs.Prelude.{◌≡◌, ◌||◌, eqb, leb};
 ghost use Rattle.std.specs.List.{list_any, zip};
+ghost use Rattle.rules.specs.Lists.{any};
+ghost use Rattle.rules.specs.Columns.{link_list};
 ghost use Rattle.rules.specs.Refusals.{graph_refusal};
 ghost use Rattle.rules.specs.Refused.{code};
-ghost use Rattle.input_graph.specs.Given.{links, earlier, rises};
+ghost use Rattle.input_graph.specs.Given.{links, Even, bad_in, earlier, rises};
 
 use rules::Refusal;
 
@@ -31,6 +33,18 @@ fn has_zero(weights: &[u32]) -> bool
     ensures { result ≡ list_any (λ w. eqb w 0) weights.now }
 {
     weights.iter().any(|weight| *weight == 0)
+}
+
+// Whether row 3, 4 or 5 finds any link bad.
+pub fn any_bad(row: u32, n: usize, tails: &[u32], heads: &[u32], weights: &[u32]) -> bool
+    requires { Even tails.now heads.now weights.now }
+    ensures { result ≡ any (bad_in row n) (link_list (links tails.now heads.now weights.now)) }
+{
+    match row {
+        3 => names_above(n, tails, heads),
+        4 => has_loop(tails, heads),
+        _ => has_zero(weights),
+    }
 }
 
 // Row 6: whether each link goes strictly before the next, by tail and then head.
