@@ -23,7 +23,7 @@ use Rattle.lists.specs.Memory.{memory}
 use Rattle.graph.specs.declared.preparation_graph.Pool.{Pool}
 use Rattle.graph.specs.Stands.{Stands}
 use Rattle.graph.proofs.Standing.{within_pool}
-use Rattle.search.specs.declared.witness_search.Round.{Round}
+use Rattle.search.specs.declared.witness_search.WitnessSearch.{WitnessSearch}
 use Rattle.search.specs.Labels.{Stamped}
 use Rattle.search.specs.Searching.{Lent, lent}
 use Rattle.node_contractor.specs.Work.{Work}
@@ -123,7 +123,7 @@ came_as e k =
 
 module _ {g : Given} {limit pool : ℕ} {t : Parts} {m : Lent} (p : Accepting g limit pool t m) {arcs weights nodes labels : List ℕ} {state : Pool}
     (stands : Stands g.nodes pool (memory arcs nodes) weights state (graph_of g.links)) where
-  pub starting : (search : Round) → search.base ≡ 0 → Stamped g.nodes labels 0 →
+  pub starting : (search : WitnessSearch) → search.base ≡ 0 → Stamped g.nodes labels 0 →
       Starting g limit pool t (lent arcs weights nodes labels m.heap) (record { state = state; search = search })
   unfolding laid_parts laid_part four_over begun_of begun over raws flat_map
   starting search e stamped =

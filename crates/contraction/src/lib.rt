@@ -18,7 +18,7 @@ use graph::preparation_graph::PreparationGraph;
 use marks::TableMut;
 use node_contractor::contract_node;
 use rules::Refusal;
-use search::witness_search::WitnessSearch;
+use search::witness_search::LentSearch;
 
 // The entries so far of either table.
 #[derive(Clone, Copy)]
@@ -30,7 +30,7 @@ pub struct Ranked {
 // Rules 2 to 4 for the node of a rank.
 fn rank_step(
     graph: &mut PreparationGraph,
-    search: &mut WitnessSearch,
+    search: &mut LentSearch,
     limit: u32,
     r: usize,
     v: u32,
@@ -72,7 +72,7 @@ fn rank_step(
 // Each node of the order in its turn.
 fn run_contraction_with_order(
     graph: &mut PreparationGraph,
-    search: &mut WitnessSearch,
+    search: &mut LentSearch,
     limit: u32,
     order: &[u32],
     fwd: &mut TableMut<'_>,
@@ -98,7 +98,7 @@ fn run_contraction_with_order(
 // Rules 1 to 4.
 pub fn contraction(
     graph: &mut PreparationGraph,
-    search: &mut WitnessSearch,
+    search: &mut LentSearch,
     n: usize,
     tails: &[u32],
     heads: &[u32],

@@ -18,7 +18,7 @@ use graph::preparation_graph::{Pool, PreparationGraph};
 use marks::TableMut;
 use refusals::Lengths;
 use rules::{INVALID, Refusal};
-use search::witness_search::{Round, WitnessSearch};
+use search::witness_search::{LentSearch, WitnessSearch};
 
 // A pool above what n nodes can ever use is as good as that.
 fn pool_inside(n: usize, pool: u64) -> u32
@@ -101,10 +101,10 @@ fn build_checked(
             fresh: 0,
         },
     };
-    let mut search = WitnessSearch {
+    let mut search = LentSearch {
         labels,
         heap,
-        round: Round {
+        round: WitnessSearch {
             base: 0,
             len: 0,
             settled: 0,

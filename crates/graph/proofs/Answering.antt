@@ -46,8 +46,17 @@ module _ {n pool : ℕ} {m m' : Memory} {w w' : List ℕ} (same : Same m w m' w'
   answers_after x e k = rw (← (still x).1) (answers_moved e k)
 
 pub kept_all : (g : PreparationGraph) → Kept g g
-kept_all g = record { pool = refl; arcs = refl; weights = refl; nodes = refl }
+kept_all g =
+    record { arcs_name = refl; weights_name = refl; nodes_name = refl; pool = refl; arcs = refl; weights = refl; nodes = refl }
 
 pub kept_on : {g g' g'' : PreparationGraph} → Kept g g' → Kept g' g'' → Kept g g''
 kept_on k l =
-    record { pool = l.pool ∙ k.pool; arcs = l.arcs ∙ k.arcs; weights = l.weights ∙ k.weights; nodes = l.nodes ∙ k.nodes }
+    record {
+      arcs_name = l.arcs_name ∙ k.arcs_name;
+      weights_name = l.weights_name ∙ k.weights_name;
+      nodes_name = l.nodes_name ∙ k.nodes_name;
+      pool = l.pool ∙ k.pool;
+      arcs = l.arcs ∙ k.arcs;
+      weights = l.weights ∙ k.weights;
+      nodes = l.nodes ∙ k.nodes;
+    }

@@ -84,8 +84,11 @@ abbrev pub told : {A : Type 0} → A → Result (Unit {0}) Refusal → Result A 
 told left (Ok u) = Ok left
 told left (Err e) = Err e
 
--- the slices are as long as they were, and the pool is the same
+-- the slices are those that were lent, and as long as they were, and the pool is the same
 pub record Kept (g g' : PreparationGraph) : Type 0 where
+  pub arcs_name : g'.arcs.ghost_name ≡ g.arcs.ghost_name
+  pub weights_name : g'.weights.ghost_name ≡ g.weights.ghost_name
+  pub nodes_name : g'.nodes.ghost_name ≡ g.nodes.ghost_name
   pub pool : g'.pool ≡ g.pool
   pub arcs : length g'.arcs.now ≡ length g.arcs.now
   pub weights : length g'.weights.now ≡ length g.weights.now

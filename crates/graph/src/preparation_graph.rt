@@ -29,6 +29,14 @@ pub struct PreparationGraph<'a> {
     pub state: Pool,
 }
 
+// A graph's slices, to be read.
+#[derive(Clone, Copy)]
+pub struct Arcs<'a> {
+    pub arcs: &'a [u32],
+    pub weights: &'a [u64],
+    pub nodes: &'a [u32],
+}
+
 // A graph of n nodes with no arc.
 pub fn clear(nodes: &mut [u32], n: usize) -> Pool
     requires { 4 * n ≤ length nodes.old }
@@ -40,6 +48,35 @@ pub fn clear(nodes: &mut [u32], n: usize) -> Pool
         free: INVALID,
         fresh: 0,
     }
+}
+
+// Looks for an arc of the same ends. One that is heavier takes the weight and the centre, in its place.
+pub fn reduce_edge(
+    arcs: &mut [u32],
+    weights: &mut [u64],
+    nodes: &[u32],
+    tail: u32,
+    head: u32,
+    weight: u64,
+    centre: u32,
+) -> bool
+    requires { (n pool : ℕ) × (state : State) × (g : List Arc) ×
+        Addable n pool (memory arcs.old nodes.now) weights.old state (arc tail head weight centre) g }
+    ensures { (n pool : ℕ) (state : State) (g : List Arc)
+        (x : Addable n pool (memory arcs.old nodes.now) weights.old state (arc tail head weight centre) g) →
+        Reduces n pool (memory arcs.old nodes.now) weights.old (memory arcs.new nodes.now)
+        weights.new state x.stands.ids (arc tail head weight centre) g result }
+{
+    let place = find_arc(arcs, nodes[4 * tail as usize], head);
+    if place == INVALID {
+        return false;
+    }
+    let at = place as usize;
+    if weight < weights[at] {
+        weights[at] = weight;
+        arcs[6 * at + 2] = centre;
+    }
+    true
 }
 
 // Removes the first arc in the list of `node` from both of its lists, and frees its place, which it returns.
@@ -70,6 +107,19 @@ fn remove_side(arcs: &mut [u32], nodes: &mut [u32], side: usize, node: usize, fr
 }
 
 impl<'a> PreparationGraph<'a> {
+    // The slices, to be read.
+    pub fn read(&self) -> Arcs<'_>
+        ensures arcs { result.arcs.now ≡ self.now.arcs.now }
+        ensures weights { result.weights.now ≡ self.now.weights.now }
+        ensures nodes { result.nodes.now ≡ self.now.nodes.now }
+    {
+        Arcs {
+            arcs: self.arcs,
+            weights: self.weights,
+            nodes: self.nodes,
+        }
+    }
+
     // The graph of the links, each at the end of its lists in turn. Refusal 10 where there are more of them than places.
     pub fn from_input_graph(
         &mut self,
@@ -150,7 +200,7 @@ impl<'a> PreparationGraph<'a> {
         self.add_edge_or_shortcut(tail, head, weight, centre)
     }
 
-    // Looks for an arc of the same ends. One that is heavier takes the weight and the centre, in its place.
+    // `reduce_edge` in these slices.
     pub fn reduce_edge(&mut self, tail: u32, head: u32, weight: u64, centre: u32) -> bool
         requires { (n pool : ℕ) × (state : State) × (g : List Arc) ×
             Addable n pool (memory self.old.arcs.now self.old.nodes.now) self.old.weights.now state (arc tail head weight centre) g }
@@ -165,16 +215,7 @@ impl<'a> PreparationGraph<'a> {
         let arcs = &mut *self.arcs;
         let weights = &mut *self.weights;
         let nodes = &mut *self.nodes;
-        let place = find_arc(arcs, nodes[4 * tail as usize], head);
-        if place == INVALID {
-            return false;
-        }
-        let at = place as usize;
-        if weight < weights[at] {
-            weights[at] = weight;
-            arcs[6 * at + 2] = centre;
-        }
-        true
+        reduce_edge(arcs, weights, nodes, tail, head, weight, centre)
     }
 
     // Removes every arc of v.

@@ -23,7 +23,7 @@ use Rattle.graph.specs.declared.preparation_graph.Pool.{Pool}
 use Rattle.graph.specs.Stands.{Stands, Unmoved}
 use Rattle.graph.proofs.Staying.{unmoved_refl, unmoved_trans}
 use Rattle.graph.proofs.Along.{Along, along_first, along_next, along_stays}
-use Rattle.search.specs.declared.witness_search.Round.{Round}
+use Rattle.search.specs.declared.witness_search.WitnessSearch.{WitnessSearch}
 use Rattle.search.specs.Searching.{Lent, lent}
 use Rattle.search.specs.Promises.{Starts}
 use Rattle.search.proofs.Laws.{ready_stamped, starting, started}
@@ -34,7 +34,7 @@ use Rattle.node_contractor.proofs.Pairs.{over_standing}
 use Rattle.node_contractor.proofs.OutArcs.{left_list, left_none, left_steps}
 
 -- One in-arc: a search begins, and goes over the out-arcs.
-module _ {arcs weights nodes labels heap labels' heap' : List ℕ} {pool : ℕ} {x : Work} {v tail weight n : ℕ} {g : List Arc} {a : Arc} (q : Round)
+module _ {arcs weights nodes labels heap labels' heap' : List ℕ} {pool : ℕ} {x : Work} {v tail weight n : ℕ} {g : List Arc} {a : Arc} (q : WitnessSearch)
     (p : Coming (lent arcs weights nodes labels heap) pool x v tail weight n g a)
     (starts : Starts labels heap labels' heap' x.search.base tail v q) (long : length heap' ≡ length heap) where
   abbrev begun : Work

@@ -7,13 +7,13 @@ ghost use Rattle.rules.specs.Search.{Search};
 ghost use Rattle.graph.specs.Promises.{told, Kept};
 ghost use Rattle.search.specs.Promises.{Kept as SearchKept};
 ghost use Rattle.search.specs.Searching.{most_sum, lent};
-ghost use Rattle.search.specs.declared.witness_search.Round.{Round};
+ghost use Rattle.search.specs.declared.witness_search.WitnessSearch.{WitnessSearch};
 ghost use Rattle.node_contractor.specs.Work.{with_round, work, slices};
 ghost use Rattle.node_contractor.specs.Promises.{Pairing, Adds, Pairs, Leaving, Leaves, Coming, Comes, Contractible, Handles, Contracts};
 
 use graph::preparation_graph::PreparationGraph;
 use rules::{INVALID, MAX_WEIGHT, Refusal};
-use search::witness_search::WitnessSearch;
+use search::witness_search::LentSearch;
 
 // Adds or reduces the arc of a pair that has no witness. A sum above 2^40 is none that an arc may weigh: an arc of the same ends is
 // kept (it weighs less, so that none is reduced), and where there is none that is refusal 12. Refusal 10 where no place is left.
@@ -24,9 +24,9 @@ fn add_shortcut(
     head: u32,
     sum: u64,
 ) -> Result<(), Refusal>
-    requires { (labels heap : List ℕ) × (r : Round) × (n : ℕ) × (g : List Arc) × (s : Search) ×
+    requires { (labels heap : List ℕ) × (r : WitnessSearch) × (n : ℕ) × (g : List Arc) × (s : Search) ×
         Pairing (lent graph.old.arcs.now graph.old.weights.now graph.old.nodes.now labels heap) graph.old.pool (with_round graph.old r) v tail head n g s }
-    ensures adds { (labels heap : List ℕ) (r : Round) (limit : ℕ) →
+    ensures adds { (labels heap : List ℕ) (r : WitnessSearch) (limit : ℕ) →
         Adds (lent graph.old.arcs.now graph.old.weights.now graph.old.nodes.now labels heap)
         (lent graph.new.arcs.now graph.new.weights.now graph.new.nodes.now labels heap) graph.old.pool (with_round graph.old r) v tail head sum limit
         (told (with_round graph.new r) result) }
@@ -45,7 +45,7 @@ fn add_shortcut(
 // One pair: dropped where both ends are the same, or where there is a witness.
 fn handle_pair(
     graph: &mut PreparationGraph,
-    search: &mut WitnessSearch,
+    search: &mut LentSearch,
     v: u32,
     tail: u32,
     head: u32,
@@ -61,7 +61,8 @@ fn handle_pair(
     if same {
         return Ok(());
     }
-    let found = search.find_max_weight(graph, head, sum, limit);
+    let arcs = graph.read();
+    let found = search.find_max_weight(&arcs, head, sum, limit);
     let witness = found <= sum;
     if witness {
         return Ok(());
@@ -73,7 +74,7 @@ fn handle_pair(
 // of v.
 fn handle_out_arcs(
     graph: &mut PreparationGraph,
-    search: &mut WitnessSearch,
+    search: &mut LentSearch,
     v: u32,
     tail: u32,
     weight: u64,
@@ -98,7 +99,7 @@ fn handle_out_arcs(
 // One in-arc, with a search of its own.
 fn handle_in_arc(
     graph: &mut PreparationGraph,
-    search: &mut WitnessSearch,
+    search: &mut LentSearch,
     v: u32,
     tail: u32,
     weight: u64,
@@ -117,7 +118,7 @@ fn handle_in_arc(
 // second function in this place, which adds none.
 fn handle_shortcuts(
     graph: &mut PreparationGraph,
-    search: &mut WitnessSearch,
+    search: &mut LentSearch,
     v: u32,
     limit: u32,
 ) -> Result<(), Refusal>
@@ -140,7 +141,7 @@ fn handle_shortcuts(
 // Adds the shortcuts of v and removes its arcs.
 pub fn contract_node(
     graph: &mut PreparationGraph,
-    search: &mut WitnessSearch,
+    search: &mut LentSearch,
     v: u32,
     limit: u32,
 ) -> Result<(), Refusal>

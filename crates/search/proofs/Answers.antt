@@ -8,19 +8,19 @@ use borrow.Author.Tests.{le-leb, lt-leb}
 use Rattle.rules.specs.Search.{Search, run, search_fuel, answer, find_max_weight}
 use Rattle.rules.specs.Search as Rules
 use Rattle.rules.proofs.Decides.{left_or, right_or}
-use Rattle.search.specs.declared.witness_search.Round.{Round}
+use Rattle.search.specs.declared.witness_search.WitnessSearch.{WitnessSearch}
 use Rattle.search.specs.Labels.{label_at, settled_at}
 use Rattle.search.specs.Searching.{World, Lent, Ready}
 use Rattle.search.specs.Promises.{Progress, SameStart, found, Asked, Ran, Answered}
 
-abbrev pub moved : Round → ℕ → ℕ → Round
+abbrev pub moved : WitnessSearch → ℕ → ℕ → WitnessSearch
 moved search len settled = record { base = search.base; len = len; settled = settled; avoid = search.avoid }
 
 -- only the count and the heap moved on
-pub moved_is : (r r' : Round) → SameStart r r' → moved r r'.len r'.settled ≡ r'
+pub moved_is : (r r' : WitnessSearch) → SameStart r r' → moved r r'.len r'.settled ≡ r'
 moved_is r r' same = λ k. record { base = (sym same.base) k; len = r'.len; settled = r'.settled; avoid = (sym same.avoid) k }
 
-module _ (search : Round) {m : Lent} {target sum : ℕ} {w : World} {s : Search}
+module _ (search : WitnessSearch) {m : Lent} {target sum : ℕ} {w : World} {s : Search}
     (x : Asked m search.base search.len search.settled target sum w s) (limit : ℕ) where
   label_now : s.label target ≡ label_at m.labels search.base target
   label_now = x.ready.searching.labelled.weight target x.inside

@@ -13,14 +13,14 @@ use Rattle.search_laws.proofs.Bounds.{init_paid, added_paid}
 use Rattle.lists.specs.Memory.{memory}
 use Rattle.graph.specs.Stands.{Stands}
 use Rattle.graph.specs.declared.preparation_graph.Pool.{Pool}
-use Rattle.search.specs.declared.witness_search.Round.{Round}
 use Rattle.search.specs.declared.witness_search.WitnessSearch.{WitnessSearch}
+use Rattle.search.specs.declared.witness_search.LentSearch.{LentSearch}
 use Rattle.search.specs.Labels.{Stamped}
 use Rattle.search.specs.Searching.{World, Standing, Lent, lent, Ready, Resting, Startable}
 use Rattle.search.specs.Promises.{Starting, Started, Kept}
 
 -- a search that began stands ready, in a heap with room for an entry of each place, and one
-pub started_ready : {w : World} {m : Lent} {base start avoid : ℕ} (r : Round) → Started m.labels m.heap base start avoid r w.n →
+pub started_ready : {w : World} {m : Lent} {base start avoid : ℕ} (r : WitnessSearch) → Started m.labels m.heap base start avoid r w.n →
     Standing w m.arcs m.weights m.nodes → 2 * (w.pool + 1) ≤ length m.heap →
     Ready w m r.base r.len r.settled (init start)
 unfolding init
@@ -72,15 +72,16 @@ module _ {w : World} {arcs weights nodes labels : List ℕ} {base : ℕ} where
   pub starting : {heap : List ℕ} {start : ℕ} → Startable w arcs weights nodes labels (length heap) base start → Starting labels heap base start w.n
   starting x = record { stamped = x.resting.stamped; inside = x.inside; heap_room = omega (arith, x.resting.heap_room); fits = x.fits }
 
-  pub started : {labels' heap' : List ℕ} {heap start avoid : ℕ} (r : Round) → Resting w arcs weights nodes labels heap base →
+  pub started : {labels' heap' : List ℕ} {heap start avoid : ℕ} (r : WitnessSearch) → Resting w arcs weights nodes labels heap base →
       Started labels' heap' base start avoid r w.n → length heap' ≡ heap →
       Ready w (lent arcs weights nodes labels' heap') r.base r.len r.settled (init start)
   started {labels'} {heap'} r x s e =
       started_ready {w = w} {m = lent arcs weights nodes labels' heap'} r s x.standing (omega (arith, x.heap_room, e))
 
 -- the slices keep their lengths
-pub search_kept_all : (s : WitnessSearch) → Kept s s
-search_kept_all s = record { labels = refl; heap = refl }
+pub search_kept_all : (s : LentSearch) → Kept s s
+search_kept_all s = record { labels_name = refl; heap_name = refl; labels = refl; heap = refl }
 
-pub search_kept_on : {s s' s'' : WitnessSearch} → Kept s s' → Kept s' s'' → Kept s s''
-search_kept_on k l = record { labels = l.labels ∙ k.labels; heap = l.heap ∙ k.heap }
+pub search_kept_on : {s s' s'' : LentSearch} → Kept s s' → Kept s' s'' → Kept s s''
+search_kept_on k l =
+    record { labels_name = l.labels_name ∙ k.labels_name; heap_name = l.heap_name ∙ k.heap_name; labels = l.labels ∙ k.labels; heap = l.heap ∙ k.heap }

@@ -8,8 +8,8 @@ use Rattle.rules.specs.Search.{Search, init, offer, relax, settle, run, search_f
 use Rattle.heap.specs.Items.{pair, item, items}
 use Rattle.heap.specs.Shape.{Ordered}
 use Rattle.lists.specs.Memory.{memory, arc_at, Chain}
-use Rattle.search.specs.declared.witness_search.Round.{Round}
 use Rattle.search.specs.declared.witness_search.WitnessSearch.{WitnessSearch}
+use Rattle.search.specs.declared.witness_search.LentSearch.{LentSearch}
 use Rattle.search.specs.Labels.{Stamped, Reached}
 use Rattle.search.specs.Turns.{cross, take, turn}
 use Rattle.search.specs.Searching.{most_sum, Searching, World, Standing, Lent, with_slices, Ready}
@@ -104,7 +104,7 @@ pub record Progress : Type 0 where
   pub settled : ℕ
   pub on : Bool
 
-abbrev pub progress : Round → Bool → Progress
+abbrev pub progress : WitnessSearch → Bool → Progress
 progress r on = record { len = r.len; settled = r.settled; on = on }
 
 pub record Taken (m : Lent) (base avoid target sum : ℕ) (r : Progress) (w : World) (s : Search) : Type 0 where
@@ -135,23 +135,23 @@ Runs m labels heap base avoid len count target sum limit r =
 -- the answer, and the search for the next target
 pub record Found : Type 0 where
   pub weight : ℕ
-  pub search : Round
+  pub search : WitnessSearch
 
-abbrev pub found : ℕ → Round → Found
+abbrev pub found : ℕ → WitnessSearch → Found
 found weight search = record { weight = weight; search = search }
 
 -- the answer, and the search as it was left for the next target
-pub record Answered (m : Lent) (search : Round) (target sum limit : ℕ) (r : Found) (w : World) (s : Search) : Type 0 where
+pub record Answered (m : Lent) (search : WitnessSearch) (target sum limit : ℕ) (r : Found) (w : World) (s : Search) : Type 0 where
   pub weight : r.weight ≡ (find_max_weight w.graph search.avoid limit target sum s).weight
   pub ready : Ready w m r.search.base r.search.len r.search.settled (find_max_weight w.graph search.avoid limit target sum s).search
   pub base : r.search.base ≡ search.base
   pub avoid : r.search.avoid ≡ search.avoid
 
 -- `search` is asked
-abbrev pub Asks : (m : Lent) → Round → (target sum : ℕ) → World → Search → Type 0
+abbrev pub Asks : (m : Lent) → WitnessSearch → (target sum : ℕ) → World → Search → Type 0
 Asks m search = Asked m search.base search.len search.settled
 
-abbrev pub Finds : (m : Lent) (labels heap : List ℕ) → Round → (target sum limit : ℕ) → Found → Type 0
+abbrev pub Finds : (m : Lent) (labels heap : List ℕ) → WitnessSearch → (target sum limit : ℕ) → Found → Type 0
 Finds m labels heap search target sum limit r =
     Each (Asks m search target sum) (Answered (with_slices m labels heap) search target sum limit r)
 
@@ -162,33 +162,37 @@ pub record Starting (labels heap : List ℕ) (base start n : ℕ) : Type 0 where
   pub heap_room : 2 ≤ length heap
   pub fits : base + 3 < 2 ^ 64
 
-pub record Started (labels heap : List ℕ) (base start avoid : ℕ) (r : Round) (n : ℕ) : Type 0 where
+pub record Started (labels heap : List ℕ) (base start avoid : ℕ) (r : WitnessSearch) (n : ℕ) : Type 0 where
   pub searching : Searching n labels heap r.base r.len (init start)
   pub counted : r.settled ≡ 0
   pub next : r.base ≡ base + 2
   pub avoids : r.avoid ≡ avoid
 
-abbrev pub Starts : (labels heap labels' heap' : List ℕ) (base start avoid : ℕ) → Round → Type 0
+abbrev pub Starts : (labels heap labels' heap' : List ℕ) (base start avoid : ℕ) → WitnessSearch → Type 0
 Starts labels heap labels' heap' base start avoid r =
     (n : ℕ) → Starting labels heap base start n → Started labels' heap' base start avoid r n
 
--- the slices are as long as they were
-pub record Kept (s s' : WitnessSearch) : Type 0 where
+-- the slices are those that were lent, and as long as they were
+pub record Kept (s s' : LentSearch) : Type 0 where
+  pub labels_name : s'.labels.ghost_name ≡ s.labels.ghost_name
+  pub heap_name : s'.heap.ghost_name ≡ s.heap.ghost_name
   pub labels : length s'.labels.now ≡ length s.labels.now
   pub heap : length s'.heap.now ≡ length s.heap.now
 
 -- the start and the avoided node are the same
-pub record SameStart (r r' : Round) : Type 0 where
+pub record SameStart (r r' : WitnessSearch) : Type 0 where
   pub base : r'.base ≡ r.base
   pub avoid : r'.avoid ≡ r.avoid
 
 -- .. and so many nodes were settled
-pub record SameRound (r r' : Round) : Type 0 where
+pub record SameRound (r r' : WitnessSearch) : Type 0 where
   pub base : r'.base ≡ r.base
   pub avoid : r'.avoid ≡ r.avoid
   pub settled : r'.settled ≡ r.settled
 
 -- nothing but labels changes
-pub record OnlyLabels (s s' : WitnessSearch) : Type 0 where
+pub record OnlyLabels (s s' : LentSearch) : Type 0 where
+  pub labels_name : s'.labels.ghost_name ≡ s.labels.ghost_name
+  pub heap_name : s'.heap.ghost_name ≡ s.heap.ghost_name
   pub heap : s'.heap.now ≡ s.heap.now
   pub round : s'.round ≡ s.round

@@ -8,24 +8,24 @@ ghost use Rattle.search.specs.Labels.{label_at, settled_at, put_label, Stamped};
 ghost use Rattle.search.specs.Searching.{lent};
 ghost use Rattle.search.specs.Promises.{Some, Offering, Offered, Crossed, Relaxing, Relaxes, Settling, Settles, Asked, Taking, Takes, Turns, Runs, Asks, Finds, Starting, Starts, found, progress, SameStart, SameRound, OnlyLabels, Kept};
 
-use graph::preparation_graph::PreparationGraph;
+use graph::preparation_graph::Arcs;
 use rules::{INVALID, WEIGHT_MAX};
-
-// The search in lent labels and a lent heap.
-#[derive(Drop)]
-pub struct WitnessSearch<'a> {
-    pub labels: &'a mut [u64],
-    pub heap: &'a mut [u64],
-    pub round: Round,
-}
 
 // What lasts over all targets of one start, which avoids one node: `len` entries are in the heap, `settled` nodes were settled.
 #[derive(Clone, Copy)]
-pub struct Round {
+pub struct WitnessSearch {
     pub base: u64,
     pub len: usize,
     pub settled: u64,
     pub avoid: u32,
+}
+
+// A search in lent labels and a lent heap.
+#[derive(Drop)]
+pub struct LentSearch<'a> {
+    pub labels: &'a mut [u64],
+    pub heap: &'a mut [u64],
+    pub round: WitnessSearch,
 }
 
 fn clear_labels(labels: &mut [u64], num_nodes: usize)
@@ -37,7 +37,7 @@ fn clear_labels(labels: &mut [u64], num_nodes: usize)
     }
 }
 
-impl WitnessSearch<'_> {
+impl LentSearch<'_> {
     // The label of v; the no-weight mark where it has none.
     fn get_current_weight(&self, v: usize) -> u64
         requires { 2 * (v + 1) ≤ length self.now.labels.now }
@@ -102,7 +102,7 @@ impl WitnessSearch<'_> {
 
     // The arcs of the chain from `first` on, which leave a node that left the heap with `weight`. The next place is read first, so that
     // it is at hand when the arc is done.
-    fn relax(&mut self, graph: &PreparationGraph, first: u32, weight: u64)
+    fn relax(&mut self, graph: &Arcs<'_>, first: u32, weight: u64)
         requires { Some (Relaxing graph.now.arcs.now graph.now.weights.now self.old.labels.now self.old.heap.now self.old.round.base self.old.round.len first weight) }
         ensures relaxes { Relaxes graph.now.arcs.now graph.now.weights.now self.old.labels.now self.old.heap.now self.new.labels.now self.new.heap.now self.old.round.base self.old.round.avoid self.old.round.len self.new.round.len first weight }
         ensures round { SameRound self.old.round self.new.round }
@@ -117,7 +117,7 @@ impl WitnessSearch<'_> {
     }
 
     // A whole node. That it is settled is no matter to its arcs, so it is marked first.
-    fn settle(&mut self, graph: &PreparationGraph, v: usize, weight: u64)
+    fn settle(&mut self, graph: &Arcs<'_>, v: usize, weight: u64)
         requires { Some (Settling (lent graph.now.arcs.now graph.now.weights.now graph.now.nodes.now self.old.labels.now self.old.heap.now) self.old.round.base self.old.round.len v weight) }
         ensures settles { Settles (lent graph.now.arcs.now graph.now.weights.now graph.now.nodes.now self.old.labels.now self.old.heap.now) self.new.labels.now self.new.heap.now self.old.round.base self.old.round.avoid self.old.round.len self.new.round.len v weight }
         ensures round { SameRound self.old.round self.new.round }
@@ -146,7 +146,7 @@ impl WitnessSearch<'_> {
         ensures kept { Kept self.old self.new }
     {
         clear_labels(self.labels, num_nodes);
-        self.round = Round {
+        self.round = WitnessSearch {
             base: 0,
             len: 0,
             settled: 0,
@@ -161,7 +161,7 @@ impl WitnessSearch<'_> {
         ensures kept { Kept self.old self.new }
     {
         let base = self.round.base + 2;
-        self.round = Round {
+        self.round = WitnessSearch {
             base,
             len: 0,
             settled: 0,
@@ -173,7 +173,7 @@ impl WitnessSearch<'_> {
     }
 
     // The first entry leaves. That of a settled node is passed over. Whether the search goes on.
-    fn take(&mut self, graph: &PreparationGraph, target: usize, weight_limit: u64) -> bool
+    fn take(&mut self, graph: &Arcs<'_>, target: usize, weight_limit: u64) -> bool
         requires { Some (Taking (lent graph.now.arcs.now graph.now.weights.now graph.now.nodes.now self.old.labels.now self.old.heap.now) self.old.round.base self.old.round.len self.old.round.settled target weight_limit) }
         ensures takes { Takes (lent graph.now.arcs.now graph.now.weights.now graph.now.nodes.now self.old.labels.now self.old.heap.now) self.new.labels.now self.new.heap.now self.old.round.base self.old.round.avoid self.old.round.len self.old.round.settled target weight_limit
             (progress self.new.round result) }
@@ -195,7 +195,7 @@ impl WitnessSearch<'_> {
     // `settled_nodes_limit`, or the next weight above `weight_limit`.
     fn turn(
         &mut self,
-        graph: &PreparationGraph,
+        graph: &Arcs<'_>,
         target: usize,
         weight_limit: u64,
         settled_nodes_limit: u32,
@@ -221,13 +221,7 @@ impl WitnessSearch<'_> {
 
     // Turns until one ends the search. No more entries can leave than `left`. It shows that the loop ends, and nothing reads it, so
     // the compiled loop is without it.
-    fn run(
-        &mut self,
-        graph: &PreparationGraph,
-        target: usize,
-        weight_limit: u64,
-        settled_nodes_limit: u32,
-    )
+    fn run(&mut self, graph: &Arcs<'_>, target: usize, weight_limit: u64, settled_nodes_limit: u32)
         requires { Some (Asked (lent graph.now.arcs.now graph.now.weights.now graph.now.nodes.now self.old.labels.now self.old.heap.now) self.old.round.base self.old.round.len self.old.round.settled target weight_limit) }
         ensures runs { Runs (lent graph.now.arcs.now graph.now.weights.now graph.now.nodes.now self.old.labels.now self.old.heap.now) self.new.labels.now self.new.heap.now self.old.round.base self.old.round.avoid self.old.round.len self.old.round.settled target weight_limit settled_nodes_limit
             (progress self.new.round false) }
@@ -248,7 +242,7 @@ impl WitnessSearch<'_> {
     // or labelled within the limit.
     pub fn find_max_weight(
         &mut self,
-        graph: &PreparationGraph,
+        graph: &Arcs<'_>,
         target: u32,
         weight_limit: u64,
         settled_nodes_limit: u32,

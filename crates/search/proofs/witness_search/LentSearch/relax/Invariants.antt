@@ -3,7 +3,7 @@ use lib.ListN.{length}
 use Rattle.lists.specs.Walks.{steps}
 use Rattle.search.specs.Promises.{Each, Relaxing, SameRound, Kept}
 use Rattle.search.proofs.Rows.{link, Rest}
-use Rattle.search.proofs.witness_search.WitnessSearch.relax.Given as goal
+use Rattle.search.proofs.witness_search.LentSearch.relax.Given as goal
 
 abbrev pub invariant-loop-place : goal.invariant-loop-place
 invariant-loop-place l =

@@ -4,8 +4,8 @@ use Prim.Native.Nat.{◌≤◌}
 use native.Mathlib.Omega.{arith}
 use Rattle.search.proofs.Runs.{onward_all, onward_stop, most_some, onward_on, asked_as}
 use Rattle.search.proofs.Laws.{search_kept_all, search_kept_on}
-use Rattle.search.proofs.witness_search.WitnessSearch.run.Goals as goal
-use Rattle.search.proofs.witness_search.WitnessSearch.run.Goals.{Else-not-on}
+use Rattle.search.proofs.witness_search.LentSearch.run.Goals as goal
+use Rattle.search.proofs.witness_search.LentSearch.run.Goals.{Else-not-on}
 
 pub turns-init : goal.turns-init
 turns-init c = (λ w s x. onward_all _ _ x, record { base = refl; avoid = refl }, search_kept_all _)

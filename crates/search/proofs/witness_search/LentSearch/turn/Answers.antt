@@ -8,8 +8,8 @@ use Rattle.heap.specs.Items.{item}
 use Rattle.search.specs.Searching.{World, lent}
 use Rattle.search.specs.Promises.{Asked, Taking}
 use Rattle.search.proofs.Takes.{turned_empty, turned_limited, turned_heavy, turned_take}
-use Rattle.search.proofs.witness_search.WitnessSearch.turn.Goals as goal
-use Rattle.search.proofs.witness_search.WitnessSearch.turn.Goals.{After-peek, Else-self-eq0, Else-weight_limit-peek}
+use Rattle.search.proofs.witness_search.LentSearch.turn.Goals as goal
+use Rattle.search.proofs.witness_search.LentSearch.turn.Goals.{After-peek, Else-self-eq0, Else-weight_limit-peek}
 
 some : (c : Else-self-eq0) → 0 < c.args.self.now.round.len
 some c = omega (arith, c.if-self-eq0.false)

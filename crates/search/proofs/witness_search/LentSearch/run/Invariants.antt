@@ -2,7 +2,7 @@
 use Rattle.search.specs.Searching.{lent}
 use Rattle.search.specs.Promises.{Each, Asked, SameStart, Kept}
 use Rattle.search.proofs.Runs.{Onward}
-use Rattle.search.proofs.witness_search.WitnessSearch.run.Given as goal
+use Rattle.search.proofs.witness_search.LentSearch.run.Given as goal
 
 abbrev pub invariant-turns : goal.invariant-turns
 invariant-turns l =

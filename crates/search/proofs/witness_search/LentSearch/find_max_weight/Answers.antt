@@ -3,7 +3,7 @@ use mathlib.Core.Path.{sym, ◌∙◌}
 use mathlib.Core.Bool.{false}
 use Rattle.search.specs.Promises.{progress}
 use Rattle.search.proofs.Answers.{answered_labelled, answered_settled, answered_run, moved_is}
-use Rattle.search.proofs.witness_search.WitnessSearch.find_max_weight.Goals as goal
+use Rattle.search.proofs.witness_search.LentSearch.find_max_weight.Goals as goal
 
 pub returns-then-weight-weight_limit-clause-finds : goal.returns-then-weight-weight_limit-clause-finds
 returns-then-weight-weight_limit-clause-finds c = λ w s x. answered_labelled c.args.self.now.round x _ c.get_current_weight-weight.ensures c.if-weight-weight_limit.true

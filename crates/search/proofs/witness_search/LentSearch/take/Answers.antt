@@ -4,7 +4,7 @@ use mathlib.Core.Bool.{not}
 use Rattle.rules.specs.Search.{with_heap}
 use Rattle.search.proofs.Offers.{label_room}
 use Rattle.search.proofs.Takes.{leaves_reached, taken_over, taken_settling, taken_settled}
-use Rattle.search.proofs.witness_search.WitnessSearch.take.Goals as goal
+use Rattle.search.proofs.witness_search.LentSearch.take.Goals as goal
 
 pub is_settled-requires : goal.is_settled-requires
 is_settled-requires c =

@@ -2,7 +2,7 @@
 use Rattle.rules.specs.Search.{mark_settled}
 use Rattle.search.specs.Labels.{put_settled}
 use Rattle.search.proofs.Nodes.{settled_row, settling, settled}
-use Rattle.search.proofs.witness_search.WitnessSearch.settle.Goals as goal
+use Rattle.search.proofs.witness_search.LentSearch.settle.Goals as goal
 
 pub relax-requires : goal.relax-requires
 unfolding put_settled

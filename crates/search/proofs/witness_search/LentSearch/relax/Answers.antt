@@ -2,9 +2,10 @@
 use mathlib.Core.Path.{◌∙◌}
 use native.Mathlib.Omega.{arith}
 use Rattle.search.specs.Promises.{Usable}
+use Rattle.search.proofs.Laws.{search_kept_on}
 use Rattle.search.proofs.Rows.{Rest, first_usable, first_offering, walk_falls, rest_on, rest_done}
-use Rattle.search.proofs.witness_search.WitnessSearch.relax.Goals as goal
-use Rattle.search.proofs.witness_search.WitnessSearch.relax.Goals.{At-loop-place, In-loop-place}
+use Rattle.search.proofs.witness_search.LentSearch.relax.Goals as goal
+use Rattle.search.proofs.witness_search.LentSearch.relax.Goals.{At-loop-place, In-loop-place}
 
 -- of the row that is there
 rest : (c : At-loop-place) →
@@ -46,7 +47,7 @@ loop-place-preserved c =
     let i = c.loop-place.invariant in
     let a = c.relax_arc.ensures in (
       record { base = a.round.base ∙ i.0.base; avoid = a.round.avoid ∙ i.0.avoid; settled = a.round.settled ∙ i.0.settled },
-      record { labels = a.kept.labels ∙ i.1.labels; heap = a.kept.heap ∙ i.1.heap },
+      search_kept_on i.1 a.kept,
       λ r s x. rest_on (i.2 r s x) c.loop-place-test.true (rw (i.0.base, i.0.avoid) at a.crossed) a.kept.heap,
     )
 

@@ -4,8 +4,8 @@ use Prim.Native.Nat.{◌+◌, ◌*◌}
 use lib.ListN.{set}
 use borrow.Author.Tests.{lt-ltb, le-ltb}
 use Rattle.search.specs.Labels.{kept_stamp, put_label}
-use Rattle.search.proofs.witness_search.WitnessSearch.update_node.Goals as goal
-use Rattle.search.proofs.witness_search.WitnessSearch.update_node.Goals.{Joined-earlier, then-earlier, else-earlier}
+use Rattle.search.proofs.witness_search.LentSearch.update_node.Goals as goal
+use Rattle.search.proofs.witness_search.LentSearch.update_node.Goals.{Joined-earlier, then-earlier, else-earlier}
 
 joined : (c : Joined-earlier) →
     let a = c.args in
