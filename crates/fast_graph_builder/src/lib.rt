@@ -1,7 +1,7 @@
 // The build in a given order: document 01's call, whole.
 #![tactic(auto)]
 
-ghost use Rattle.std.specs.Prelude.{◌≡◌, ◌≤◌};
+ghost use Rattle.std.specs.Prelude.{◌≡◌, ◌≤◌, OnOk};
 ghost use Rattle.rules.specs.Refusals.{BuildCall};
 ghost use Rattle.rules.specs.Build.{Step, Building, built, build};
 ghost use Rattle.rules.specs.Refused.{code};
@@ -11,9 +11,11 @@ ghost use Rattle.marks.specs.Tables.{table_of, hierarchy};
 ghost use Rattle.marks.specs.Lent.{table_at, KeptColumns};
 ghost use Rattle.node_contractor.specs.Work.{Work};
 ghost use Rattle.contraction.specs.Ranks.{given, call, staged};
+ghost use Rattle.finish.specs.Lent.{KeptEntries};
 ghost use Rattle.fast_graph_builder.specs.Promises.{answer, run, lengths, Inside, Closing, Passed};
 
 use contraction::Ranked;
+use finish::LaidTable;
 use graph::preparation_graph::{Pool, PreparationGraph};
 use marks::TableMut;
 use refusals::Lengths;
@@ -51,10 +53,36 @@ fn close(
         answer (code result) (hierarchy ranks.new (table_at fwd.new) (table_at bwd.new)) ≡ built c s }
     ensures fwd_kept { KeptColumns fwd.old fwd.new }
     ensures bwd_kept { KeptColumns bwd.old bwd.new }
+    ensures fwd_entries { OnOk result (KeptEntries fwd.old fwd.new) }
+    ensures bwd_entries { OnOk result (KeptEntries bwd.old bwd.new) }
 {
     match ranked {
         Ok(ranked) => {
-            finish::finish_contraction(n, order, ranked.fwd, ranked.bwd, ranks, fwd, bwd);
+            let fwd_starts = &mut *fwd.starts;
+            let fwd_bases = &mut *fwd.bases;
+            let fwd_neighbours = &mut *fwd.neighbours;
+            let fwd_ins = &mut *fwd.ins;
+            let fwd_outs = &mut *fwd.outs;
+            let bwd_starts = &mut *bwd.starts;
+            let bwd_bases = &mut *bwd.bases;
+            let bwd_neighbours = &mut *bwd.neighbours;
+            let bwd_ins = &mut *bwd.ins;
+            let bwd_outs = &mut *bwd.outs;
+            let fwd_laid = LaidTable {
+                starts: fwd_starts,
+                ins: fwd_ins,
+                outs: fwd_outs,
+                bases: fwd_bases,
+                neighbours: fwd_neighbours,
+            };
+            let bwd_laid = LaidTable {
+                starts: bwd_starts,
+                ins: bwd_ins,
+                outs: bwd_outs,
+                bases: bwd_bases,
+                neighbours: bwd_neighbours,
+            };
+            finish::finish_contraction(n, order, ranked.fwd, ranked.bwd, ranks, fwd_laid, bwd_laid);
             Ok(())
         }
         Err(refusal) => {

@@ -5,10 +5,9 @@ ghost use Rattle.std.specs.Prelude.{List, ℕ, ◌+◌, ◌≤◌, ◌<◌, leng
 ghost use Rattle.rules.specs.Columns.{Side};
 ghost use Rattle.rules.specs.Refusals.{BuildCall};
 ghost use Rattle.rules.specs.Build.{Raw, Building};
-ghost use Rattle.finish.specs.Promises.{Seekable, Sought, Inverse, Ranks};
-ghost use Rattle.finish.specs.Lent.{OpeningAt, OpensAt, FinishingAt, FinishesAt, EndingAt, EndedAt, KeptEntries};
+ghost use Rattle.finish.specs.Promises.{Seekable, Sought, Inverse, Ranks, Ended};
+ghost use Rattle.finish.specs.Lent.{OpeningAt, OpensAt, FinishingAt, FinishesAt, EndingAt};
 
-use marks::TableMut;
 use rules::INVALID;
 
 // The first entry of a rank to, or from, u; where the rank ends if there is none.
@@ -29,12 +28,12 @@ fn get_edge_id(starts: &[u32], neighbours: &[u32], r: u32, u: u32) -> u32
 
 // What an entry's numbers are looked up in: the ranks, and of either table where a rank's entries start and whom they meet.
 #[derive(Clone, Copy)]
-struct Laid<'a> {
+struct Laid<'a, 'b> {
     ranks: &'a [u32],
     fwd_starts: &'a [u32],
-    fwd_neighbours: &'a [u32],
+    fwd_neighbours: &'b [u32],
     bwd_starts: &'a [u32],
-    bwd_neighbours: &'a [u32],
+    bwd_neighbours: &'b [u32],
 }
 
 // The two numbers of an entry.
@@ -45,7 +44,7 @@ struct Numbers {
 }
 
 // The backward entry of the centre from the tail, and its forward entry to the head. Without a centre both are invalid.
-fn open_entry(laid: Laid<'_>, centre: u32, tail: u32, head: u32) -> Numbers
+fn open_entry(laid: Laid<'_, '_>, centre: u32, tail: u32, head: u32) -> Numbers
     requires { (c : BuildCall) × (b : Building) × (s : Side) × (x : Raw) × OpeningAt c b s x centre tail head laid }
     ensures { OpensAt centre tail head laid.entry result }
 {
@@ -63,7 +62,7 @@ fn open_entry(laid: Laid<'_>, centre: u32, tail: u32, head: u32) -> Numbers
 
 // The entries of one table, whose centres wait in the column of the first numbers.
 fn finish_table(
-    laid: Laid<'_>,
+    laid: Laid<'_, '_>,
     count: usize,
     tails: &[u32],
     heads: &[u32],
@@ -91,6 +90,16 @@ fn write_ranks(order: &[u32], ranks: &mut [u32])
     }
 }
 
+// A table whose entries are laid, as it is lent to rule 5: the last start and the numbers are written, the entries' ends only read.
+#[derive(Drop)]
+pub struct LaidTable<'a, 'b> {
+    pub starts: &'a mut [u32],
+    pub ins: &'a mut [u32],
+    pub outs: &'a mut [u32],
+    pub bases: &'b [u32],
+    pub neighbours: &'b [u32],
+}
+
 // The order's inverse, the last starts, and both tables, of so many entries.
 pub fn finish_contraction(
     n: usize,
@@ -98,29 +107,31 @@ pub fn finish_contraction(
     fwd_count: usize,
     bwd_count: usize,
     ranks: &mut [u32],
-    fwd: &mut TableMut<'_>,
-    bwd: &mut TableMut<'_>,
+    fwd: LaidTable<'_, '_>,
+    bwd: LaidTable<'_, '_>,
 )
-    requires { (c : BuildCall) × (b : Building) × EndingAt c b n order.now fwd_count bwd_count ranks.old fwd.old bwd.old }
-    ensures ends { (c : BuildCall) (b : Building) → EndingAt c b n order.now fwd_count bwd_count ranks.old fwd.old bwd.old →
-        EndedAt c b ranks.new fwd.new bwd.new }
-    ensures fwd_kept { KeptEntries fwd.old fwd.new }
-    ensures bwd_kept { KeptEntries bwd.old bwd.new }
+    requires { (c : BuildCall) × (b : Building) × EndingAt c b n order.now fwd_count bwd_count ranks.old fwd bwd }
+    ensures { (c : BuildCall) (b : Building) → EndingAt c b n order.now fwd_count bwd_count ranks.old fwd.entry bwd.entry →
+        Ended c b ranks.new
+        fwd.exit.0.now fwd.exit.1.0.now fwd.exit.1.1.0.now bwd.exit.0.now bwd.exit.1.0.now bwd.exit.1.1.0.now }
 {
+    let LaidTable {
+        starts: fwd_starts,
+        ins: fwd_ins,
+        outs: fwd_outs,
+        bases: fwd_bases,
+        neighbours: fwd_neighbours,
+    } = fwd;
+    let LaidTable {
+        starts: bwd_starts,
+        ins: bwd_ins,
+        outs: bwd_outs,
+        bases: bwd_bases,
+        neighbours: bwd_neighbours,
+    } = bwd;
     write_ranks(order, ranks);
-    fwd.starts[n] = fwd_count as u32;
-    bwd.starts[n] = bwd_count as u32;
-    // column by column, since some are read while others are written
-    let fwd_starts = &mut *fwd.starts;
-    let fwd_bases = &mut *fwd.bases;
-    let fwd_neighbours = &mut *fwd.neighbours;
-    let bwd_starts = &mut *bwd.starts;
-    let bwd_bases = &mut *bwd.bases;
-    let bwd_neighbours = &mut *bwd.neighbours;
-    let fwd_ins = &mut *fwd.ins;
-    let fwd_outs = &mut *fwd.outs;
-    let bwd_ins = &mut *bwd.ins;
-    let bwd_outs = &mut *bwd.outs;
+    fwd_starts[n] = fwd_count as u32;
+    bwd_starts[n] = bwd_count as u32;
     let laid = Laid {
         ranks,
         fwd_starts,
@@ -132,14 +143,14 @@ pub fn finish_contraction(
         laid,
         fwd_count,
         fwd_bases,
-        laid.fwd_neighbours,
+        fwd_neighbours,
         fwd_ins,
         fwd_outs,
     );
     finish_table(
         laid,
         bwd_count,
-        laid.bwd_neighbours,
+        bwd_neighbours,
         bwd_bases,
         bwd_ins,
         bwd_outs,

@@ -8,12 +8,7 @@ pub finish_contraction-requires : goal.finish_contraction-requires
 finish_contraction-requires c = let q = c.requires in (_, _, ending q.4 _ (ap (staged q.3) c.in-Ok.is))
 
 pub returns-in-Ok-clause-closes : goal.returns-in-Ok-clause-closes
-returns-in-Ok-clause-closes c =
-    λ k s m w p.
-    let ends = c.finish_contraction.ensures in
-    let f = ends.fwd_kept in
-    let b = ends.bwd_kept in
-    rw (f.bases, f.neighbours, f.weights, b.bases, b.neighbours, b.weights) (closed_went p _ (ap (staged w) c.in-Ok.is) ends.ends)
+returns-in-Ok-clause-closes c = λ k s m w p. closed_went p _ (ap (staged w) c.in-Ok.is) c.finish_contraction.ensures
 
 pub returns-in-Err-clause-closes : goal.returns-in-Err-clause-closes
 returns-in-Err-clause-closes c = λ k s m w p. closed_refused p _ (ap (staged w) c.in-Err.is) c.mark_all.ensures.marks

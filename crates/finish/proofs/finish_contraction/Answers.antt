@@ -7,17 +7,17 @@ use Rattle.finish.proofs.finish_contraction.Goals as goal
 pub write_ranks-requires : goal.write_ranks-requires
 write_ranks-requires c = let q = c.requires in (_, ending_inverse q.2)
 
-pub overflow_cast-fwd : goal.overflow_cast-fwd
-overflow_cast-fwd c = omega (arith, small_fwd c.requires.2)
+pub overflow_cast-fwd_starts : goal.overflow_cast-fwd_starts
+overflow_cast-fwd_starts c = omega (arith, small_fwd c.requires.2)
 
-pub bounds-fwd-n : goal.bounds-fwd-n
-bounds-fwd-n c = omega (arith, fwd_start_there c.requires.2)
+pub bounds-fwd_starts-n : goal.bounds-fwd_starts-n
+bounds-fwd_starts-n c = omega (arith, fwd_start_there c.requires.2)
 
-pub overflow_cast-bwd : goal.overflow_cast-bwd
-overflow_cast-bwd c = omega (arith, small_bwd c.requires.2)
+pub overflow_cast-bwd_starts : goal.overflow_cast-bwd_starts
+overflow_cast-bwd_starts c = omega (arith, small_bwd c.requires.2)
 
-pub bounds-bwd-n : goal.bounds-bwd-n
-bounds-bwd-n c = omega (arith, bwd_start_there c.requires.2)
+pub bounds-bwd_starts-n : goal.bounds-bwd_starts-n
+bounds-bwd_starts-n c = omega (arith, bwd_start_there c.requires.2)
 
 pub finish_table-requires : goal.finish_table-requires
 finish_table-requires c = let q = c.requires in (q.0, q.1, forward, finishing_forward q.2 c.write_ranks.ensures)
@@ -25,5 +25,5 @@ finish_table-requires c = let q = c.requires in (q.0, q.1, forward, finishing_fo
 pub finish_table-requires-2 : goal.finish_table-requires-2
 finish_table-requires-2 c = let q = c.requires in (q.0, q.1, backward, finishing_backward q.2 c.write_ranks.ensures)
 
-pub returns-clause-ends : goal.returns-clause-ends
-returns-clause-ends c = λ k b p. ended p c.write_ranks.ensures c.finish_table.ensures c.finish_table-2.ensures
+pub returns : goal.returns
+returns c = λ k b p. ended p c.write_ranks.ensures c.finish_table.ensures c.finish_table-2.ensures
