@@ -5,8 +5,9 @@ use mathlib.Core.List.Memᴰ
 use mathlib.Core.List.{List, [], ◌∷◌, ◌++◌, map, map-append, append_assoc, append-nil}
 use Prim.Native.Nat.{ℕ, ◌+◌, ◌*◌, ◌≤◌, ◌<◌}
 use native.Mathlib.Omega.{arith}
-use lib.ListN.{length, set, get_or, length-set, length-append, length-map}
+use lib.ListN.{length, set, get_or, take, drop, length-set, length-append, length-take, length-drop, length-map}
 use lib.Seq.{get_or-set_same, get_or-set_other}
+use Rattle.std.proofs.Math.ListN.{get_or-append}
 use Rattle.rules.specs.Numbers.{invalid}
 use Rattle.rules.specs.Lists.{In, keep, distinct}
 use Rattle.rules.specs.Graph.{Arc}
@@ -76,6 +77,19 @@ stands_clear n pool arcs nodes weights small arcs_room weights_room nodes_room m
   arcs = refl;
   weights_room = weights_room;
 }
+
+-- So it is where the front of the numbers was filled with the mark.
+pub stands_filled : (n pool : ℕ) (arcs nodes weights marks : List ℕ) (filled : ℕ) → pool ≤ invalid → 6 * pool ≤ length arcs → pool ≤ length weights → 4 * n ≤ length nodes
+    → filled ≡ 4 * n → length marks ≡ length (take filled nodes) → ((k : ℕ) → k < length (take filled nodes) → get_or marks k 0 ≡ invalid)
+    → Stands n pool (memory arcs (marks ++ drop filled nodes)) weights (record { free = invalid; fresh = 0 }) []
+stands_filled n pool arcs nodes weights marks filled small arcs_room weights_room nodes_room whole long marked =
+    let rest = drop filled nodes in
+    let front = length-take filled nodes in
+    stands_clear n pool arcs (marks ++ rest) weights small arcs_room weights_room
+    (omega (arith, length-append marks rest, long, front, length-drop filled nodes))
+    (λ k h.
+    let inside : k < length (take filled nodes) = omega (arith, front) in
+    get_or-append marks rest 0 k (omega (arith, long)) ∙ marked k inside)
 
 -- An arc comes into the place p, which was not live; `state` and `rest` are what is left of the freed.
 module _ {n pool : ℕ} {m : Memory} {old : Pool} {ids freed : List ℕ} (here : Placed n pool m old ids freed)
