@@ -7,6 +7,7 @@ ghost use Rattle.std.specs.Prelude.{[], ◌∷◌, ◌≡◌, ◌*◌, length, g
 ghost use Rattle.rules.specs.Refusals.{first_met, short};
 ghost use Rattle.rules.specs.Refused.{code};
 ghost use Rattle.tables.specs.Lent.{hierarchy_of};
+ghost use Rattle.halves.specs.Slices.{AsLong};
 ghost use Rattle.path_calculator.specs.Searching.{Fresh};
 ghost use Rattle.query.specs.Routes.{answer_of, scratch_of};
 ghost use Rattle.calc_paths.specs.Many.{many_rows, answers, calc_paths};
@@ -141,7 +142,9 @@ fn fill_all(
     bwd: &mut Half<'_>,
 )
     requires { Fillable (paths_call g.now.num_nodes (hierarchy_of g.now) sources.now targets.now (columns_of numbers.old weights.old lengths.old paths.old) (scratch_of fwd.old bwd.old)) fwd.old.labels.now bwd.old.labels.now }
-    ensures { columns_of numbers.new weights.new lengths.new paths.new ≡ answers (paths_call g.now.num_nodes (hierarchy_of g.now) sources.now targets.now (columns_of numbers.old weights.old lengths.old paths.old) (scratch_of fwd.old bwd.old)) }
+    ensures fills { columns_of numbers.new weights.new lengths.new paths.new ≡ answers (paths_call g.now.num_nodes (hierarchy_of g.now) sources.now targets.now (columns_of numbers.old weights.old lengths.old paths.old) (scratch_of fwd.old bwd.old)) }
+    ensures fwd_kept { AsLong fwd.old fwd.new }
+    ensures bwd_kept { AsLong bwd.old bwd.new }
 {
     for k in 0..sources.len() {
         fill_pair(
@@ -163,7 +166,9 @@ pub fn calc_paths(
     fwd: &mut Half<'_>,
     bwd: &mut Half<'_>,
 ) -> Result<(), Refusal>
-    ensures { answered (code result) (columns_of numbers.new weights.new lengths.new paths.new) ≡ calc_paths (paths_call g.now.num_nodes (hierarchy_of g.now) sources.now targets.now (columns_of numbers.old weights.old lengths.old paths.old) (scratch_of fwd.old bwd.old)) }
+    ensures answers { answered (code result) (columns_of numbers.new weights.new lengths.new paths.new) ≡ calc_paths (paths_call g.now.num_nodes (hierarchy_of g.now) sources.now targets.now (columns_of numbers.old weights.old lengths.old paths.old) (scratch_of fwd.old bwd.old)) }
+    ensures fwd_kept { AsLong fwd.old fwd.new }
+    ensures bwd_kept { AsLong bwd.old bwd.new }
 {
     refusal(
         g,

@@ -1,4 +1,5 @@
--- The same of the code's half: its slices stay as long as they are, and its base as it is.
+-- The same of the code's half: it keeps the slices that were lent, as long as they are, and its base. So the lender knows what its own
+-- slices hold afterwards.
 use Rattle.std.specs.Prelude.{List, ◌≡◌, ℕ, length}
 use Rattle.rules.specs.Query.{Label}
 use Rattle.halves.specs.declared.Half.{Half}
@@ -6,17 +7,23 @@ use Rattle.halves.specs.declared.Ends.{Ends}
 use Rattle.halves.specs.Promises.{Offering, Offers, Relaxing, Relaxes, Entering, Enters}
 
 pub record Kept (x y : Half) : Type 0 where
+  pub labels_name : y.labels.ghost_name ≡ x.labels.ghost_name
+  pub heap_name : y.heap.ghost_name ≡ x.heap.ghost_name
   pub labels : length y.labels.now ≡ length x.labels.now
   pub heap : length y.heap.now ≡ length x.heap.now
   pub base : y.base ≡ x.base
 
--- of whatever base
+-- the same, of whatever base
 pub record AsLong (x y : Half) : Type 0 where
+  pub labels_name : y.labels.ghost_name ≡ x.labels.ghost_name
+  pub heap_name : y.heap.ghost_name ≡ x.heap.ghost_name
   pub labels : length y.labels.now ≡ length x.labels.now
   pub heap : length y.heap.now ≡ length x.heap.now
 
 -- the slices stay, and the heap is empty
 pub record Started (x : Half) (base : ℕ) (y : Half) : Type 0 where
+  pub labels_name : y.labels.ghost_name ≡ x.labels.ghost_name
+  pub heap_name : y.heap.ghost_name ≡ x.heap.ghost_name
   pub labels : y.labels.now ≡ x.labels.now
   pub heap : y.heap.now ≡ x.heap.now
   pub base_is : y.base ≡ base
@@ -24,6 +31,8 @@ pub record Started (x : Half) (base : ℕ) (y : Half) : Type 0 where
 
 -- nothing but labels changes
 pub record SameHeap (x y : Half) : Type 0 where
+  pub labels_name : y.labels.ghost_name ≡ x.labels.ghost_name
+  pub heap_name : y.heap.ghost_name ≡ x.heap.ghost_name
   pub heap : y.heap.now ≡ x.heap.now
   pub base : y.base ≡ x.base
   pub len : y.len ≡ x.len

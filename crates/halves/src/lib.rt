@@ -54,7 +54,8 @@ pub struct Half<'a> {
 impl<'a> Half<'a> {
     // What is lent for one side's searches.
     pub fn new(labels: &'a mut [u64], heap: &'a mut [u64]) -> Half<'a>
-        ensures { (result.labels.now ≡ labels.old) × (result.heap.now ≡ heap.old) }
+        ensures holds { (result.labels.now ≡ labels.old) × (result.heap.now ≡ heap.old) }
+        ensures same_slices { (result.labels.ghost_name ≡ labels.entry.ghost_name) × (result.heap.ghost_name ≡ heap.entry.ghost_name) }
     {
         Half {
             labels,

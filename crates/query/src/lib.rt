@@ -8,6 +8,7 @@ ghost use Rattle.rules.specs.Refused.{code};
 ghost use Rattle.rules.specs.Refusals.{query_refusal};
 ghost use Rattle.rules.specs.Query.{query};
 ghost use Rattle.tables.specs.Lent.{hierarchy_of};
+ghost use Rattle.halves.specs.Slices.{AsLong};
 ghost use Rattle.ends.specs.Given.{ends_of};
 ghost use Rattle.path_calculator.specs.Searching.{Fresh, call_of};
 ghost use Rattle.query.specs.Rows.{ends_refusal, room_short};
@@ -143,7 +144,9 @@ pub fn calc_path(
     fwd: &mut Half<'_>,
     bwd: &mut Half<'_>,
 ) -> Result<Option<ShortestPath>, Refusal>
-    ensures { Tells (query (call_of g.now sources.now targets.now path.old (scratch_of fwd.old bwd.old))) (answer_of result) path.new }
+    ensures tells { Tells (query (call_of g.now sources.now targets.now path.old (scratch_of fwd.old bwd.old))) (answer_of result) path.new }
+    ensures fwd_kept { AsLong fwd.old fwd.new }
+    ensures bwd_kept { AsLong bwd.old bwd.new }
 {
     refusal(g, sources, targets, path, fwd, bwd)?;
     halves::clear(g.num_nodes, fwd.labels);
@@ -175,7 +178,9 @@ pub fn fill_path(
     fwd: &mut Half<'_>,
     bwd: &mut Half<'_>,
 ) -> usize
-    ensures { Tells (query (call_of g.now sources.now targets.now path.old (scratch_of fwd.old bwd.old))) (answer number.new weight.new result) path.new }
+    ensures tells { Tells (query (call_of g.now sources.now targets.now path.old (scratch_of fwd.old bwd.old))) (answer number.new weight.new result) path.new }
+    ensures fwd_kept { AsLong fwd.old fwd.new }
+    ensures bwd_kept { AsLong bwd.old bwd.new }
 {
     let (answered, least, count) = numbers(calc_path(g, sources, targets, path, fwd, bwd));
     *number = answered;
@@ -195,7 +200,9 @@ pub fn calc_path_multiple_sources_and_targets<'a>(
     fwd: &mut Half<'_>,
     bwd: &mut Half<'_>,
 ) -> &'a mut [u32]
-    ensures { Hands (query (call_of g.now sources.now targets.now path.old (scratch_of fwd.old bwd.old))) result.now number.new weight.new }
+    ensures hands { Hands (query (call_of g.now sources.now targets.now path.old (scratch_of fwd.old bwd.old))) result.now number.new weight.new }
+    ensures fwd_kept { AsLong fwd.old fwd.new }
+    ensures bwd_kept { AsLong bwd.old bwd.new }
 {
     let count = fill_path(g, sources, targets, path, number, weight, fwd, bwd);
     &mut path[..count]

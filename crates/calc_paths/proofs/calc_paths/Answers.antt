@@ -1,7 +1,8 @@
 -- The rows of the whole call first; a call that meets none is filled pair by pair, over cleared labels.
-use mathlib.Core.Path.{sym}
+use mathlib.Core.Path.{refl, sym}
 use Rattle.std.proofs.lemmas.Result.{err_from_is_err_and}
 use Rattle.rules.proofs.Refused.{some_number}
+use Rattle.halves.proofs.Slices.{long_all, labels_long}
 use Rattle.calc_paths.specs.Many.{paths_refusal}
 use Rattle.calc_paths.proofs.Rows.{refused_whole, labels_room, cleared_fillable, filled_whole}
 use Rattle.calc_paths.proofs.calc_paths.Goals as goal
@@ -10,7 +11,11 @@ pub returns-in_err-refusal : goal.returns-in_err-refusal
 unfolding paths_refusal
 returns-in_err-refusal c =
     let p = err_from_is_err_and c.from_residual.result c.from_residual.ensures.1 in
-    rw (p.1, p.2) (refused_whole _ _ _ _ _ _ _ c.in_err-refusal.ensures (some_number _))
+    record {
+      answers = rw (p.1, p.2) (refused_whole _ _ _ _ _ _ _ c.in_err-refusal.ensures (some_number _));
+      fwd_kept = long_all _;
+      bwd_kept = long_all _;
+    }
 
 pub clear-requires : goal.clear-requires
 clear-requires c = (labels_room _ _ _ _ _ _ _ _ _ (sym c.in_ok-refusal.ensures)).0
@@ -24,4 +29,10 @@ fill_all-requires c = cleared_fillable _ _ _ _ _ _ _ _ _ (sym c.in_ok-refusal.en
 
 pub returns : goal.returns
 unfolding paths_refusal
-returns c = filled_whole _ _ _ _ _ _ _ _ _ (sym c.in_ok-refusal.ensures) _ _ c.clear.auto.labels c.clear-2.auto.labels c.fill_all.ensures
+returns c =
+    let a = c.fill_all.ensures in
+    record {
+      answers = filled_whole _ _ _ _ _ _ _ _ _ (sym c.in_ok-refusal.ensures) _ _ c.clear.auto.labels c.clear-2.auto.labels a.fills;
+      fwd_kept = labels_long refl c.clear.auto.labels refl a.fwd_kept;
+      bwd_kept = labels_long refl c.clear-2.auto.labels refl a.bwd_kept;
+    }

@@ -1,7 +1,7 @@
 -- The pair's places are lent as a part of the path column; the answer's numbers are put in theirs.
-use mathlib.Core.Path.{sym, ap, ◌∙◌}
+use mathlib.Core.Path.{sym, ◌∙◌}
 use native.Mathlib.Omega.{arith}
-use lib.ListN.{length}
+use Rattle.halves.proofs.Slices.{started_long}
 use Rattle.calc_paths.proofs.Pairs.{cut_long, filled, few_nodes}
 use Rattle.calc_paths.proofs.fill_pair.Goals as goal
 
@@ -30,6 +30,6 @@ returns c =
     let p = c.calc_pair-answer.ensures in
     record {
       filled = rw (told.0, told.1, told.2) (filled _ _ _ _ _ _ _ _ _ _ _ _ _ _ (rw (f.labels, b.labels, f.heap, b.heap, f.base_is) at p.paired));
-      fwd_long = record { labels = p.fwd_kept.labels ∙ ap length f.labels; heap = p.fwd_kept.heap ∙ ap length f.heap };
-      bwd_long = record { labels = p.bwd_kept.labels ∙ ap length b.labels; heap = p.bwd_kept.heap ∙ ap length b.heap };
+      fwd_long = started_long f p.fwd_kept;
+      bwd_long = started_long b p.bwd_kept;
     }

@@ -18,11 +18,11 @@ slice_bounds-new-end-4 c = front_long _ 1024 (omega (arith, c.requires.0.bwd_mos
 
 pub returns : goal.returns
 returns c =
-    let x = c.new.ensures in
-    let y = c.new-2.ensures in
+    let x = c.new.ensures.holds in
+    let y = c.new-2.ensures.holds in
     asked _ _ _ _ _ _ _ _ _ c.requires.1
     (sym (front_long _ 128 (omega (arith, c.requires.0.few))))
     (sym (front_long _ 128 (omega (arith, c.requires.0.few))))
     (sym (front_long _ 1024 (omega (arith, c.requires.0.fwd_most))))
     (sym (front_long _ 1024 (omega (arith, c.requires.0.bwd_most))))
-    _ _ (rw (x.0, x.1, y.0, y.1) at c.calc_path.ensures)
+    _ _ (rw (x.0, x.1, y.0, y.1) at c.calc_path.ensures.tells)

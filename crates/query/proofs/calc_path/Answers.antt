@@ -1,8 +1,9 @@
 -- The refusals first; a query that none of them meets is answered by `route`, over cleared labels.
-use mathlib.Core.Path.{sym, ◌∙◌}
+use mathlib.Core.Path.{refl, sym, ◌∙◌}
 use Rattle.std.proofs.lemmas.Result.{err_from_is_err_and}
 use Rattle.rules.proofs.Refused.{some_number}
 use Rattle.query_laws.proofs.Accepted.{accepted}
+use Rattle.halves.proofs.Slices.{long_all, labels_long, started_long}
 use Rattle.query.proofs.Found.{rooms, routing, tells_routed}
 use Rattle.query.proofs.Handing.{tells_refused}
 use Rattle.query.proofs.calc_path.Goals as goal
@@ -10,7 +11,11 @@ use Rattle.query.proofs.calc_path.Goals as goal
 pub returns-in_err-refusal : goal.returns-in_err-refusal
 returns-in_err-refusal c =
     let p = err_from_is_err_and c.from_residual.result c.from_residual.ensures.1 in
-    rw (p.1, p.2) (tells_refused _ _ c.in_err-refusal.ensures (some_number _))
+    record {
+      tells = rw (p.1, p.2) (tells_refused _ _ c.in_err-refusal.ensures (some_number _));
+      fwd_kept = long_all _;
+      bwd_kept = long_all _;
+    }
 
 pub clear-requires : goal.clear-requires
 clear-requires c = (rooms _ _ _ _ _ _ (accepted _ (sym c.in_ok-refusal.ensures)).scratch_room).0
@@ -31,5 +36,11 @@ pub returns : goal.returns
 returns c =
     let x = c.start.ensures in
     let y = c.start-2.ensures in
-    tells_routed _ _ _ _ _ _ _ _ _ _ _ (sym c.in_ok-refusal.ensures) _ _ c.clear.auto.labels c.clear-2.auto.labels
-    (rw (x.labels, x.heap, x.base_is, y.labels, y.heap) at c.route.ensures.routed)
+    let r = c.route.ensures in
+    record {
+      tells =
+          tells_routed _ _ _ _ _ _ _ _ _ _ _ (sym c.in_ok-refusal.ensures) _ _ c.clear.auto.labels c.clear-2.auto.labels
+          (rw (x.labels, x.heap, x.base_is, y.labels, y.heap) at r.routed);
+      fwd_kept = labels_long refl c.clear.auto.labels refl (started_long x r.fwd_kept);
+      bwd_kept = labels_long refl c.clear-2.auto.labels refl (started_long y r.bwd_kept);
+    }

@@ -1,14 +1,14 @@
 -- The rounds that are left, from here, are all of them from the start.
-use mathlib.Core.Path.{refl, sym, ap, ◌∙◌}
+use mathlib.Core.Path.{sym, ap, ◌∙◌}
 use native.Mathlib.Omega.{arith}
 use Rattle.tables.specs.Lent.{turned}
-use Rattle.halves.proofs.Slices.{kept_on}
+use Rattle.halves.proofs.Slices.{kept_all, kept_on}
 use Rattle.rounds.proofs.Going.{going_first, rounding, some_fuel, going_on, done}
 use Rattle.rounds.proofs.rounds.Goals as goal
 
 pub loop-fwd-init : goal.loop-fwd-init
 loop-fwd-init c =
-    (record { labels = refl; heap = refl; base = refl }, record { labels = refl; heap = refl; base = refl }, λ t. going_first _ _ _ _ _ _ _ _ _ _ _ _ _ _ _ _ _ t)
+    (kept_all _, kept_all _, λ t. going_first _ _ _ _ _ _ _ _ _ _ _ _ _ _ _ _ _ t)
 
 pub overflow_add-fwd : goal.overflow_add-fwd
 overflow_add-fwd c = let g = c.loop-fwd.invariant.2 c.requires.1 in omega (arith, g.fwd.held, g.bwd.held)

@@ -13,5 +13,5 @@ returns c =
     let rest = c.set_settled.ensures.rest in
     record {
       settles = rw (rw r.kept.base at mark, rest.heap, rest.len) (settles _ _ _ _ _ _ _ _ _ _ _ _ _ c.requires r.kept.labels r.relaxes);
-      kept = record { labels = rw mark (simp length-set r.kept.labels); heap = rw rest.heap r.kept.heap; base = rest.base ∙ r.kept.base };
+      kept = record { labels_name = rest.labels_name ∙ r.kept.labels_name; heap_name = rest.heap_name ∙ r.kept.heap_name; labels = rw mark (simp length-set r.kept.labels); heap = rw rest.heap r.kept.heap; base = rest.base ∙ r.kept.base };
     }
