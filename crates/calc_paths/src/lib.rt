@@ -9,11 +9,11 @@ ghost use Rattle.rules.specs.Refused.{code};
 ghost use Rattle.tables.specs.Lent.{hierarchy_of};
 ghost use Rattle.halves.specs.Slices.{AsLong};
 ghost use Rattle.path_calculator.specs.Searching.{Fresh};
-ghost use Rattle.query.specs.Routes.{answer_of, scratch_of};
+ghost use Rattle.query.specs.Routes.{answer_of, lengths_lent, scratch_of};
 ghost use Rattle.calc_paths.specs.Many.{many_rows, answers, calc_paths};
 ghost use Rattle.calc_paths.specs.Filling.{columns_of, paths_call, answered, PairingOn, PairedOn, FillingOn, FilledOn, Fillable};
 
-use halves::{Ends, Half};
+use halves::{Ends, Half, Lengths};
 use query::ShortestPath;
 use rules::Refusal;
 use tables::FastGraph;
@@ -53,10 +53,10 @@ fn refusal(
     weights: usize,
     lengths: usize,
     paths: usize,
-    fwd: &Half<'_>,
-    bwd: &Half<'_>,
+    fwd: Lengths,
+    bwd: Lengths,
 ) -> Result<(), Refusal>
-    ensures { code result ≡ first_met (many_rows g.now.num_nodes (hierarchy_of g.now) sources targets (numbers ∷ weights ∷ lengths ∷ paths ∷ []) (scratch_of fwd.now bwd.now)) }
+    ensures { code result ≡ first_met (many_rows g.now.num_nodes (hierarchy_of g.now) sources targets (numbers ∷ weights ∷ lengths ∷ paths ∷ []) (lengths_lent fwd bwd)) }
 {
     tables::check_tables(g)?;
     if sources != targets {
@@ -178,13 +178,14 @@ pub fn calc_paths(
         weights.len(),
         lengths.len(),
         paths.len(),
-        fwd,
-        bwd,
+        fwd.lengths(),
+        bwd.lengths(),
     )?;
     halves::clear(g.num_nodes, fwd.labels);
     halves::clear(g.num_nodes, bwd.labels);
     fill_all(
         g, sources, targets, numbers, weights, lengths, paths, fwd, bwd,
     );
+    // What the halves hold is left as it is: each call clears what it reads.
     Ok(())
 }

@@ -3,8 +3,12 @@
 use Rattle.std.specs.Prelude.{List, ◌≡◌, ℕ, length}
 use Rattle.rules.specs.Query.{Label}
 use Rattle.halves.specs.declared.Half.{Half}
+use Rattle.halves.specs.declared.Lengths.{Lengths}
 use Rattle.halves.specs.declared.Ends.{Ends}
 use Rattle.halves.specs.Promises.{Offering, Offers, Relaxing, Relaxes, Entering, Enters}
+
+abbrev pub lengths_of : Half → Lengths
+lengths_of x = record { labels = length x.labels.now; heap = length x.heap.now }
 
 pub record Kept (x y : Half) : Type 0 where
   pub labels_name : y.labels.ghost_name ≡ x.labels.ghost_name

@@ -8,7 +8,7 @@
 ghost use Rattle.std.specs.Prelude.{◌≡◌, ◌+◌, ◌*◌, ◌^◌, ◌<◌, ◌≤◌, ltb, length};
 ghost use Rattle.rules.specs.Query.{lower};
 ghost use Rattle.halves.specs.Labels.{of, label, seen, stamp, put_label, put_settled, Before};
-ghost use Rattle.halves.specs.Slices.{Started, SameHeap, OfferingTo, OffersTo, RelaxingFrom, RelaxesFrom, EnteringInto, EntersInto};
+ghost use Rattle.halves.specs.Slices.{lengths_of, Started, SameHeap, OfferingTo, OffersTo, RelaxingFrom, RelaxesFrom, EnteringInto, EntersInto};
 
 use rules::{INVALID, WEIGHT_MAX};
 
@@ -42,39 +42,14 @@ impl Label {
     }
 }
 
-// A side's search: `len` items are in its heap, and `base` is the query's.
-#[derive(Drop)]
-pub struct Half<'a> {
-    pub labels: &'a mut [u64],
-    pub heap: &'a mut [u64],
+// One side's labels, to be read.
+#[derive(Clone, Copy)]
+pub struct SideLabels<'a> {
+    pub labels: &'a [u64],
     pub base: u64,
-    pub len: usize,
 }
 
-impl<'a> Half<'a> {
-    // What is lent for one side's searches.
-    pub fn new(labels: &'a mut [u64], heap: &'a mut [u64]) -> Half<'a>
-        ensures holds { (result.labels.now ≡ labels.old) × (result.heap.now ≡ heap.old) }
-        ensures same_slices { (result.labels.ghost_name ≡ labels.entry.ghost_name) × (result.heap.ghost_name ≡ heap.entry.ghost_name) }
-    {
-        Half {
-            labels,
-            heap,
-            base: 1,
-            len: 0,
-        }
-    }
-}
-
-impl Half<'_> {
-    // Begins a search of this base, with an empty heap. That no stamp is of the base is asked where it is searched.
-    pub fn start(&mut self, base: u64)
-        ensures { Started self.old base self.new }
-    {
-        self.base = base;
-        self.len = 0;
-    }
-
+impl SideLabels<'_> {
     // The label of v; document 01's marks where it has none, so that an offer needs no case of its own.
     pub fn load(&self, v: usize) -> Label
         requires { 4 * (v + 1) ≤ length self.now.labels.now }
@@ -110,6 +85,88 @@ impl Half<'_> {
         ensures { result ≡ ltb self.now.base (stamp self.now.labels.now v) }
     {
         self.base < self.labels[4 * v + 3]
+    }
+}
+
+// How long the slices of one side are.
+#[derive(Clone, Copy)]
+pub struct Lengths {
+    pub labels: usize,
+    pub heap: usize,
+}
+
+// A side's search: `len` items are in its heap, and `base` is the query's.
+#[derive(Drop)]
+pub struct Half<'a> {
+    pub labels: &'a mut [u64],
+    pub heap: &'a mut [u64],
+    pub base: u64,
+    pub len: usize,
+}
+
+impl<'a> Half<'a> {
+    // What is lent for one side's searches.
+    pub fn new(labels: &'a mut [u64], heap: &'a mut [u64]) -> Half<'a>
+        ensures holds { (result.labels.now ≡ labels.old) × (result.heap.now ≡ heap.old) }
+        ensures same_slices { (result.labels.ghost_name ≡ labels.entry.ghost_name) × (result.heap.ghost_name ≡ heap.entry.ghost_name) }
+    {
+        Half {
+            labels,
+            heap,
+            base: 1,
+            len: 0,
+        }
+    }
+}
+
+impl Half<'_> {
+    // Begins a search of this base, with an empty heap. That no stamp is of the base is asked where it is searched.
+    pub fn start(&mut self, base: u64)
+        ensures { Started self.old base self.new }
+    {
+        self.base = base;
+        self.len = 0;
+    }
+
+    pub fn lengths(&self) -> Lengths
+        ensures { result ≡ lengths_of self.now }
+    {
+        Lengths {
+            labels: self.labels.len(),
+            heap: self.heap.len(),
+        }
+    }
+
+    // Its labels, to be read while it is lent.
+    pub fn read(&self) -> SideLabels<'_>
+        ensures labels { result.labels.now ≡ self.now.labels.now }
+        ensures base { result.base ≡ self.now.base }
+    {
+        SideLabels {
+            labels: self.labels,
+            base: self.base,
+        }
+    }
+
+    pub fn load(&self, v: usize) -> Label
+        requires { 4 * (v + 1) ≤ length self.now.labels.now }
+        ensures { of result ≡ seen self.now.labels.now self.now.base v }
+    {
+        self.read().load(v)
+    }
+
+    pub fn get_weight(&self, v: usize) -> u64
+        requires { 4 * (v + 1) ≤ length self.now.labels.now }
+        ensures { result ≡ (seen self.now.labels.now self.now.base v).weight }
+    {
+        self.read().get_weight(v)
+    }
+
+    pub fn is_settled(&self, v: usize) -> bool
+        requires { 4 * (v + 1) ≤ length self.now.labels.now }
+        ensures { result ≡ ltb self.now.base (stamp self.now.labels.now v) }
+    {
+        self.read().is_settled(v)
     }
 
     // A settled node stays settled: only a stamp of an earlier query changes.

@@ -8,7 +8,7 @@ ghost use Rattle.tables.specs.Lent.{hierarchy_of};
 ghost use Rattle.unpacking.specs.Written.{Put};
 ghost use Rattle.paths.specs.Climbs.{Climbing, Climbed, Extracting, Extracted};
 
-use halves::Half;
+use halves::SideLabels;
 use rules::INVALID;
 use tables::FastGraph;
 use unpacking::{unpack_bwd, unpack_fwd};
@@ -16,7 +16,7 @@ use unpacking::{unpack_bwd, unpack_fwd};
 // The forward half: the chain of parents of v, its end first.
 fn climb_fwd(
     g: &FastGraph<'_>,
-    half: &Half<'_>,
+    half: &SideLabels<'_>,
     v: usize,
     path: &mut [u32],
     at: usize,
@@ -52,7 +52,7 @@ fn put_node(path: &mut [u32], at: usize, limit: usize, node: u32) -> usize
 // The backward half, its end last, which is a node of the walk.
 fn climb_bwd(
     g: &FastGraph<'_>,
-    half: &Half<'_>,
+    half: &SideLabels<'_>,
     v: usize,
     path: &mut [u32],
     at: usize,
@@ -75,8 +75,8 @@ fn climb_bwd(
 // Both halves, as far as the limit.
 pub fn extract_nodes(
     g: &FastGraph<'_>,
-    fwd: &Half<'_>,
-    bwd: &Half<'_>,
+    fwd: &SideLabels<'_>,
+    bwd: &SideLabels<'_>,
     v: usize,
     path: &mut [u32],
     limit: usize,

@@ -13,9 +13,9 @@ ghost use Rattle.ends.specs.Given.{ends_of};
 ghost use Rattle.path_calculator.specs.Searching.{Fresh, call_of};
 ghost use Rattle.query.specs.Rows.{ends_refusal, room_short};
 ghost use Rattle.query.specs.Answers.{answer, Tells, Hands, Handing, HandedBack};
-ghost use Rattle.query.specs.Routes.{answer_of, scratch_of, RoutingOn, RoutedOn};
+ghost use Rattle.query.specs.Routes.{answer_of, lengths_lent, scratch_of, RoutingOn, RoutedOn};
 
-use halves::{Ends, Half};
+use halves::{Ends, Half, Lengths, SideLabels};
 use rules::{INVALID, Refusal, WEIGHT_MAX};
 use tables::FastGraph;
 
@@ -45,24 +45,24 @@ fn check_ends(n: usize, sources: &Ends<'_>, targets: &Ends<'_>) -> Result<(), Re
 }
 
 // Whether a length that is lent is below what row 24 asks.
-pub fn lent_short(g: &FastGraph<'_>, path: usize, fwd: &Half<'_>, bwd: &Half<'_>) -> bool
+pub fn lent_short(g: &FastGraph<'_>, path: usize, fwd: Lengths, bwd: Lengths) -> bool
     requires { (g.now.num_nodes ≤ 1024) × (g.now.num_nodes < length g.now.fwd.starts.now) × (g.now.num_nodes < length g.now.bwd.starts.now) }
-    ensures { result ≡ room_short g.now.num_nodes (get_or g.now.fwd.starts.now g.now.num_nodes 0) (get_or g.now.bwd.starts.now g.now.num_nodes 0) path (length fwd.now.labels.now) (length bwd.now.labels.now) (length fwd.now.heap.now) (length bwd.now.heap.now) }
+    ensures { result ≡ room_short g.now.num_nodes (get_or g.now.fwd.starts.now g.now.num_nodes 0) (get_or g.now.bwd.starts.now g.now.num_nodes 0) path fwd.labels bwd.labels fwd.heap bwd.heap }
 {
     let n = g.num_nodes;
     if path < n {
         return true;
     }
-    if fwd.labels.len() < 4 * n {
+    if fwd.labels < 4 * n {
         return true;
     }
-    if bwd.labels.len() < 4 * n {
+    if bwd.labels < 4 * n {
         return true;
     }
-    if fwd.heap.len() < 2 * (g.fwd.starts[n] as usize + rules::MAX_ENDS) {
+    if fwd.heap < 2 * (g.fwd.starts[n] as usize + rules::MAX_ENDS) {
         return true;
     }
-    bwd.heap.len() < 2 * (g.bwd.starts[n] as usize + rules::MAX_ENDS)
+    bwd.heap < 2 * (g.bwd.starts[n] as usize + rules::MAX_ENDS)
 }
 
 // The first row that is met. Of scratch only the lengths matter.
@@ -71,10 +71,10 @@ pub fn refusal(
     sources: &Ends<'_>,
     targets: &Ends<'_>,
     path: &[u32],
-    fwd: &Half<'_>,
-    bwd: &Half<'_>,
+    fwd: Lengths,
+    bwd: Lengths,
 ) -> Result<(), Refusal>
-    ensures { code result ≡ query_refusal (call_of g.now sources.now targets.now path.now (scratch_of fwd.now bwd.now)) }
+    ensures { code result ≡ query_refusal (call_of g.now sources.now targets.now path.now (lengths_lent fwd bwd)) }
 {
     tables::check_tables(g)?;
     check_ends(g.num_nodes, sources, targets)?;
@@ -94,8 +94,8 @@ pub struct ShortestPath {
 // The walk through v, counted before anything is written: refusal 25 leaves the path alone.
 fn hand_back(
     g: &FastGraph<'_>,
-    fwd: &Half<'_>,
-    bwd: &Half<'_>,
+    fwd: &SideLabels<'_>,
+    bwd: &SideLabels<'_>,
     v: usize,
     sum: u64,
     path: &mut [u32],
@@ -131,7 +131,14 @@ pub fn route(
     if best.node == INVALID {
         return Ok(None);
     }
-    hand_back(g, fwd, bwd, best.node as usize, best.sum, path)
+    hand_back(
+        g,
+        &fwd.read(),
+        &bwd.read(),
+        best.node as usize,
+        best.sum,
+        path,
+    )
 }
 
 // The whole query: the refusals, then the route. Labels are cleared, so that whatever the slices held does not matter; 1 is then a base
@@ -148,7 +155,7 @@ pub fn calc_path(
     ensures fwd_kept { AsLong fwd.old fwd.new }
     ensures bwd_kept { AsLong bwd.old bwd.new }
 {
-    refusal(g, sources, targets, path, fwd, bwd)?;
+    refusal(g, sources, targets, path, fwd.lengths(), bwd.lengths())?;
     halves::clear(g.num_nodes, fwd.labels);
     halves::clear(g.num_nodes, bwd.labels);
     fwd.start(1);

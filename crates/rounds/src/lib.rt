@@ -21,8 +21,8 @@ fn round(
     requires { (back.now ≡ turned ahead.now) × (bwd.old.base ≡ fwd.old.base) × RoundingOn ahead.now fwd.old bwd.old (of best) }
     ensures { RoundedOn ahead.now fwd.old bwd.old (of best) fwd.new bwd.new (of result) }
 {
-    let met = turn(ahead, fwd, bwd, best);
-    turn(back, bwd, fwd, met)
+    let met = turn(ahead, fwd, &bwd.read(), best);
+    turn(back, bwd, &fwd.read(), met)
 }
 
 // Each round takes an item out, so `fuel`, which is enough for all of them, counts them down; nothing else reads it.

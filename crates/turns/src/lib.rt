@@ -8,7 +8,7 @@ ghost use Rattle.rules.specs.Query.{improve};
 ghost use Rattle.halves.specs.Labels.{seen};
 ghost use Rattle.turns.specs.Turning.{of, best, SettlingIn, SettlesIn, TurningOn, TurnsOn};
 
-use halves::Half;
+use halves::{Half, SideLabels};
 use rules::WEIGHT_MAX;
 use tables::{Sided, Table};
 
@@ -43,7 +43,7 @@ fn less(label: u64, entry: u64, weight: u64) -> bool
 }
 
 // A settled node with a label on the other side may set the best sum.
-fn meet(facing: &Half<'_>, v: usize, weight: u64, best: Best) -> Best
+fn meet(facing: &SideLabels<'_>, v: usize, weight: u64, best: Best) -> Best
     requires { (4 * (v + 1) ≤ length facing.now.labels.now) × (v < 2 ^ 32) ×
         ((seen facing.now.labels.now facing.now.base v).weight < no_weight → weight + (seen facing.now.labels.now facing.now.base v).weight < 2 ^ 64) }
     ensures { of result ≡ improve (weight + (seen facing.now.labels.now facing.now.base v).weight) v (of best) }
@@ -66,7 +66,7 @@ fn settle(own: &Table<'_>, half: &mut Half<'_>, v: usize, weight: u64, begin: us
 }
 
 // It ends at the first item that it settles, or at one heavier than the best, which is taken out and lost, or with its heap empty.
-pub fn turn(t: &Sided<'_>, half: &mut Half<'_>, facing: &Half<'_>, best: Best) -> Best
+pub fn turn(t: &Sided<'_>, half: &mut Half<'_>, facing: &SideLabels<'_>, best: Best) -> Best
     requires { (facing.now.base ≡ half.old.base) × TurningOn t.now half.old facing.now.labels.now best.sum }
     ensures { TurnsOn t.now half.old facing.now.labels.now (of best) half.new (of result) }
 {

@@ -13,16 +13,20 @@ returns-then-best c =
 
 pub hand_back-requires : goal.hand_back-requires
 hand_back-requires c =
-    let s = c.search-best.ensures in (
-      s.bwd_kept.base ∙ c.requires.0.base ∙ sym s.fwd_kept.base,
-      rw s.fwd_kept.base (handing _ _ _ _ _ _ _ _ _ _ _ _ c.requires.1 _ _ _ _ _ s.searched c.if-best.false s.fwd_kept.labels s.bwd_kept.labels),
+    let s = c.search-best.ensures in
+    let f = c.read.ensures in
+    let b = c.read-2.ensures in (
+      b.base ∙ s.bwd_kept.base ∙ c.requires.0.base ∙ sym s.fwd_kept.base ∙ sym f.base,
+      rw (f.labels, b.labels, f.base, s.fwd_kept.base) (handing _ _ _ _ _ _ _ _ _ _ _ _ c.requires.1 _ _ _ _ _ s.searched c.if-best.false s.fwd_kept.labels s.bwd_kept.labels),
     )
 
 pub returns : goal.returns
 returns c =
     let s = c.search-best.ensures in
+    let f = c.read.ensures in
+    let b = c.read-2.ensures in
     record {
-      routed = walk_found _ _ _ _ _ _ _ _ _ _ _ _ c.requires.1 _ _ _ _ _ s.searched c.if-best.false _ _ (rw s.fwd_kept.base at c.hand_back.ensures);
+      routed = walk_found _ _ _ _ _ _ _ _ _ _ _ _ c.requires.1 _ _ _ _ _ s.searched c.if-best.false _ _ (rw (f.labels, b.labels, f.base, s.fwd_kept.base) at c.hand_back.ensures);
       fwd_kept = s.fwd_kept;
       bwd_kept = s.bwd_kept;
     }

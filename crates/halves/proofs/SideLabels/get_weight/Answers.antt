@@ -2,7 +2,7 @@
 use borrow.Author.Tests.{lt-ltb, le-ltb}
 use Rattle.rules.specs.Query.{no_label}
 use Rattle.halves.specs.Labels.{seen}
-use Rattle.halves.proofs.Half.get_weight.Goals as goal
+use Rattle.halves.proofs.SideLabels.get_weight.Goals as goal
 
 pub returns-then-self-v : goal.returns-then-self-v
 unfolding seen no_label
