@@ -82,30 +82,20 @@ fn fill<T: Number>(list: &mut Reader, places: &mut [T], count: u32) {
     list.column(&mut places[..count]);
 }
 
-fn read_hierarchy(list: &mut Reader) -> Hierarchy {
-    let nodes = list.number();
-    let mut lengths = [0; 13];
-    list.column(&mut lengths);
-    let number = list.number();
-    let asks = list.number();
-    let mut narrow = [0; 832];
-    let mut wide = [0; 128];
-    for (i, length) in lengths.iter().enumerate() {
+// Over places that hold 0. They are lent, since a hierarchy that is returned would be copied place by place.
+fn read_hierarchy(list: &mut Reader, hierarchy: &mut Hierarchy) {
+    hierarchy.nodes = list.number();
+    list.column(&mut hierarchy.lengths);
+    hierarchy.number = list.number();
+    hierarchy.asks = list.number();
+    for (i, length) in hierarchy.lengths.iter().enumerate() {
         if i == Column::FwdWeights as usize {
-            fill(list, &mut wide, *length);
+            fill(list, &mut hierarchy.wide, *length);
         } else if i == Column::BwdWeights as usize {
-            fill(list, &mut wide[64..], *length);
+            fill(list, &mut hierarchy.wide[64..], *length);
         } else {
-            fill(list, &mut narrow[64 * i..], *length);
+            fill(list, &mut hierarchy.narrow[64 * i..], *length);
         }
-    }
-    Hierarchy {
-        nodes,
-        lengths,
-        number,
-        asks,
-        narrow,
-        wide,
     }
 }
 
@@ -223,7 +213,15 @@ impl Hierarchy {
 }
 
 fn replay(list: &mut Reader) -> Replayed {
-    let hierarchy = read_hierarchy(list);
+    let mut hierarchy = Hierarchy {
+        nodes: 0,
+        lengths: [0; 13],
+        number: 0,
+        asks: 0,
+        narrow: [0; 832],
+        wide: [0; 128],
+    };
+    read_hierarchy(list, &mut hierarchy);
     let checked = rules::number(tables::check_tables(&hierarchy.graph())) == hierarchy.number;
     let mut agree = 0;
     for _ in 0..hierarchy.asks {
