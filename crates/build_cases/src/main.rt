@@ -118,28 +118,34 @@ fn table_agrees(list: &mut Reader, table: &Table, lent: &[u32; 5], used: u32, he
     bases && neighbours && weights && ins && outs
 }
 
-// What a build leaves.
-#[derive(Drop)]
-struct Built {
+// Whether what a build leaves is what the list has next.
+fn all_agree(
+    list: &mut Reader,
+    head: &Head,
     number: u32,
-    ranks: [u32; 64],
-    fwd: Table,
-    bwd: Table,
-}
-
-// Whether it is what the list has next.
-fn all_agree(list: &mut Reader, head: &Head, built: &Built) -> bool {
+    ranks: &[u32; 64],
+    fwd: &Table,
+    bwd: &Table,
+) -> bool {
     let starts = head.used_starts;
-    let ranks = agrees(list, &built.ranks, head.ranks, head.used_ranks, head.rest);
-    let fwd_starts = agrees(list, &built.fwd.starts, head.fwd_starts, starts, head.rest);
-    let bwd_starts = agrees(list, &built.bwd.starts, head.bwd_starts, starts, head.rest);
-    let fwd = table_agrees(list, &built.fwd, &head.fwd, head.fwd_entries, head);
-    let bwd = table_agrees(list, &built.bwd, &head.bwd, head.bwd_entries, head);
-    built.number == head.number && ranks && fwd_starts && bwd_starts && fwd && bwd
+    let same_ranks = agrees(list, ranks, head.ranks, head.used_ranks, head.rest);
+    let fwd_starts = agrees(list, &fwd.starts, head.fwd_starts, starts, head.rest);
+    let bwd_starts = agrees(list, &bwd.starts, head.bwd_starts, starts, head.rest);
+    let same_fwd = table_agrees(list, fwd, &head.fwd, head.fwd_entries, head);
+    let same_bwd = table_agrees(list, bwd, &head.bwd, head.bwd_entries, head);
+    number == head.number && same_ranks && fwd_starts && bwd_starts && same_fwd && same_bwd
 }
 
+// Whether a build leaves what the list has next. It is compared where it lies: a value that is returned would be copied place by place.
 // The scratch is enough for 25 nodes and a pool of 72, and holds rubbish.
-fn build(head: &Head, tails: &[u32], heads: &[u32], weights: &[u32], order: &[u32]) -> Built {
+fn build(
+    list: &mut Reader,
+    head: &Head,
+    tails: &[u32],
+    heads: &[u32],
+    weights: &[u32],
+    order: &[u32],
+) -> bool {
     let mut ranks = [head.filled; 64];
     let mut fwd = filled(head.filled);
     let mut bwd = filled(head.filled);
@@ -175,12 +181,7 @@ fn build(head: &Head, tails: &[u32], heads: &[u32], weights: &[u32], order: &[u3
         &mut labels,
         &mut heap,
     );
-    Built {
-        number: rules::number(outcome),
-        ranks,
-        fwd,
-        bwd,
-    }
+    all_agree(list, head, rules::number(outcome), &ranks, &fwd, &bwd)
 }
 
 // Whether the program has places for the links and the order.
@@ -207,8 +208,7 @@ fn replay(list: &mut Reader) -> bool {
     list.column(heads);
     list.column(weights);
     list.column(order);
-    let built = build(&head, tails, heads, weights, order);
-    all_agree(list, &head, &built)
+    build(list, &head, tails, heads, weights, order)
 }
 
 // A build that does not agree is named.
