@@ -111,16 +111,10 @@ fn read_listed(list: &mut Reader) -> Listed {
     }
 }
 
-fn read_ends(list: &mut Reader, count: u32) -> Ends {
-    let mut nodes = [0; 32];
-    let mut offsets = [0; 32];
-    fill(list, &mut nodes, count);
-    fill(list, &mut offsets, count);
-    Ends {
-        count,
-        nodes,
-        offsets,
-    }
+// So many as are counted, over places that hold 0.
+fn read_ends(list: &mut Reader, ends: &mut Ends) {
+    fill(list, &mut ends.nodes, ends.count);
+    fill(list, &mut ends.offsets, ends.count);
 }
 
 impl Ends {
@@ -197,18 +191,30 @@ impl Hierarchy {
     // Whether the list's next query answers as it says, over the whole path. One with more places than the program has is not asked.
     fn replay_query(&self, list: &mut Reader) -> bool {
         let listed = read_listed(list);
-        let sources = read_ends(list, listed.sources);
-        let targets = read_ends(list, listed.targets);
+        let mut sources = Ends {
+            count: listed.sources,
+            nodes: [0; 32],
+            offsets: [0; 32],
+        };
+        let mut targets = Ends {
+            count: listed.targets,
+            nodes: [0; 32],
+            offsets: [0; 32],
+        };
+        read_ends(list, &mut sources);
+        read_ends(list, &mut targets);
         let mut path = [listed.filled; 64];
         let (number, weight, count) = match path.get_mut(..listed.places as usize) {
             Some(path) => self.ask(&sources, &targets, path),
             None => (0, 0, 0),
         };
-        let walk = list.matches(&path, listed.length as usize, listed.filled);
+        let mut walk = Reader {
+            rest: list.bytes(4 * listed.length as usize),
+        };
         number == listed.number
             && weight == listed.weight
             && count == listed.length as usize
-            && walk
+            && walk.matches(&path, listed.length as usize, listed.filled)
     }
 }
 
